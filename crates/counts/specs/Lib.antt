@@ -1,0 +1,4 @@
+pub mod Counts
+pub mod CountLaws
+pub mod BytesLaws
+pub mod CountExamples

@@ -1,0 +1,64 @@
+// Floats that keep every bit pattern. The language's own f32 and f64 have one NaN with no payload, so a single or a double is
+// a number, or the bits of a NaN.
+ghost use mathlib.Core.Path.{_≡_};
+ghost use Rattle.floats.specs.Floats.{singleOf, singleBits, doubleOf, doubleBits};
+
+// A number of 32 bits, or the 32 bits of a NaN.
+pub enum Single {
+    Number(f32),
+    Bits(u32),
+}
+
+// A number of 64 bits, or the 64 bits of a NaN.
+pub enum Double {
+    Number(f64),
+    Bits(u64),
+}
+
+// The single of 32 bits: their number, or the bits themselves where they are a NaN's.
+pub fn single_of_bits(bits: u32) -> Single
+    ensures { λ r. ⌜ r ≡ singleOf bits ⌝ }
+{
+    if 0x7f80_0000 < bits % 0x8000_0000 {
+        Single::Bits(bits)
+    } else {
+        Single::Number(f32::from_bits(bits))
+    }
+}
+
+// The 32 bits of a single. A NaN that was computed has no payload, and gives 0x7FC00000.
+pub fn bits_of_single(value: Single) -> u32
+    ensures { λ r. ⌜ r ≡ singleBits value ⌝ }
+{
+    match value {
+        Single::Number(x) => { if x != x { 0x7fc0_0000 } else { f32::to_bits(x) } }
+        Single::Bits(bits) => bits,
+    }
+}
+
+// The double of 64 bits: their number, or the bits themselves where they are a NaN's.
+pub fn double_of_bits(bits: u64) -> Double
+    ensures { λ r. ⌜ r ≡ doubleOf bits ⌝ }
+{
+    if 0x7ff0_0000_0000_0000 < bits % 0x8000_0000_0000_0000 {
+        Double::Bits(bits)
+    } else {
+        Double::Number(f64::from_bits(bits))
+    }
+}
+
+// The 64 bits of a double. A NaN that was computed has no payload, and gives 0x7FF8000000000000.
+pub fn bits_of_double(value: Double) -> u64
+    ensures { λ r. ⌜ r ≡ doubleBits value ⌝ }
+{
+    match value {
+        Double::Number(x) => {
+            if x != x {
+                0x7ff8_0000_0000_0000
+            } else {
+                f64::to_bits(x)
+            }
+        }
+        Double::Bits(bits) => bits,
+    }
+}

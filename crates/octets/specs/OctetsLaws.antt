@@ -1,0 +1,95 @@
+-- Laws of fields of eight bits, one after the other: as a list, as bytes, and out of two neighbours.
+use mathlib.Core.Path.{_≡_, sym, ap, ap₂, _∙_, subst}
+use Prim.Native.Nat.{ℕ, _+_, _-_, _*_, _/_, _%_, _^_, _<_, _≤_}
+use native.Mathlib.Nat.{add-zero, mul-mod-left}
+use native.Mathlib.Omega.{arith}
+use mathlib.Core.List.{List, _++_}
+use lib.ListN.{length, getD, take, drop, length-take, length-drop}
+use lib.Seq.{getD-take, getD-drop}
+use lib.Pow.{mod-pow-add, shl-shr, shr-lt}
+use lib.Bits.{bitOr, or-comm, or-shifted}
+use Rattle.bits.specs.declared.Order.{Order}
+use Rattle.bits.specs.declared.Order.the-variants.{Little, Big}
+use Rattle.bits.specs.Field.{join, field}
+use Rattle.bits.specs.Word.{first, rest}
+use Rattle.bits.specs.JoinLaws.{first-join, rest-join}
+use Rattle.bits.specs.FieldLaws.{field-lt, field-split, field-cut, field-byte}
+use Rattle.octets.specs.Octets.{firsts, octets}
+use Rattle.octets.specs.FirstsLaws.{length-firsts, getD-firsts, firsts-is, firsts-same, firsts-split}
+
+module _ (o : Order) (s : List ℕ) (p : ℕ) where
+  pub length-octets : (n : ℕ) → length (octets o s p n) ≡ n
+  unfolding octets
+  length-octets = length-firsts (λ i. field o s (p + 8 * i) 8)
+
+  pub getD-octets : (n i : ℕ) → i < n → getD (octets o s p n) i 0 ≡ field o s (p + 8 * i) 8
+  unfolding octets
+  getD-octets = getD-firsts (λ i. field o s (p + 8 * i) 8)
+
+  pub octets-split : (m n : ℕ) → octets o s p (m + n) ≡ octets o s p m ++ octets o s (p + 8 * m) n
+  unfolding octets
+  octets-split m n =
+      firsts-split (λ i. field o s (p + 8 * i) 8) m n
+      ∙ ap (λ (l : List ℕ). firsts (λ i. field o s (p + 8 * i) 8) m ++ l)
+      (firsts-same (λ i. field o s (p + 8 * (m + i)) 8) (λ i. field o s (p + 8 * m + 8 * i) 8) n
+      (λ i h. let e : p + 8 * (m + i) ≡ p + 8 * m + 8 * i = omega arith in ap (λ (q : ℕ). field o s q 8) e))
+
+-- ---- as the code computes
+
+-- x << a keeps the low b bits of x, where a + b bits are kept
+shl-low : (x a b : ℕ) → (x * 2 ^ a) % 2 ^ (b + a) ≡ x % 2 ^ b * 2 ^ a
+shl-low x a b = mod-pow-add (x * 2 ^ a) b a ∙ simp (shl-shr, mul-mod-left, add-zero)
+
+-- (x << a) | (y >> b), of bytes
+above-high : (x y a b : ℕ) → b + a ≡ 8 → y < 2 ^ 8 → bitOr ((x * 2 ^ a) % 2 ^ 8) (y / 2 ^ b) ≡ x % 2 ^ b * 2 ^ a + y / 2 ^ b
+above-high x y a b e h =
+    let f : 8 ≡ a + b = omega arith in
+    ap (λ (k : ℕ). bitOr ((x * 2 ^ a) % 2 ^ k) (y / 2 ^ b)) (sym e)
+    ∙ ap (λ (k : ℕ). bitOr k (y / 2 ^ b)) (shl-low x a b)
+    ∙ or-shifted (x % 2 ^ b) a (y / 2 ^ b) (shr-lt a b (subst (λ (k : ℕ). y < 2 ^ k) f h))
+
+-- the last 8 - n bits of x, then the first n of y
+module _ (x y n : ℕ) (h : n ≤ 8) where
+  pub straddle-little : x < 2 ^ 8 → bitOr (x / 2 ^ n) ((y * 2 ^ (8 - n)) % 2 ^ 8) ≡ join Little (8 - n) n (rest Little n (8 - n) x) (first Little n (8 - n) y)
+  unfolding join first rest
+  straddle-little b =
+      or-comm (x / 2 ^ n) ((y * 2 ^ (8 - n)) % 2 ^ 8) ∙ above-high y x (8 - n) n (omega arith) b
+
+  pub straddle-big : y < 2 ^ 8 → bitOr ((x * 2 ^ n) % 2 ^ 8) (y / 2 ^ (8 - n)) ≡ join Big (8 - n) n (rest Big n (8 - n) x) (first Big n (8 - n) y)
+  unfolding join first rest
+  straddle-big b = above-high x y n (8 - n) (omega arith) b
+
+-- ---- fields of a slice of bytes
+
+module _ (o : Order) (s : List ℕ) (b : (i : ℕ) → getD s i 0 < 2 ^ 8) where
+  byte-cut : (i n : ℕ) → n ≤ 8 → getD s i 0 ≡ join o n (8 - n) (field o s (8 * i) n) (field o s (8 * i + n) (8 - n))
+  byte-cut i n h = sym (field-byte o s i (b i)) ∙ field-cut o s (8 * i) n 8 h
+
+  byte-first : (i n : ℕ) → n ≤ 8 → first o n (8 - n) (getD s i 0) ≡ field o s (8 * i) n
+  byte-first i n h = ap (first o n (8 - n)) (byte-cut i n h) ∙ first-join o n (8 - n) (field-lt o s (8 * i) n) (field-lt o s (8 * i + n) (8 - n))
+
+  byte-rest : (i n : ℕ) → n ≤ 8 → rest o n (8 - n) (getD s i 0) ≡ field o s (8 * i + n) (8 - n)
+  byte-rest i n h = ap (rest o n (8 - n)) (byte-cut i n h) ∙ rest-join o n (8 - n) (field-lt o s (8 * i) n) (field-lt o s (8 * i + n) (8 - n))
+
+  -- a field of eight bits from two neighbours
+  pub field-straddle : (at n i : ℕ) → n ≤ 8 → join o (8 - n) n (rest o n (8 - n) (getD s (at + i) 0)) (first o n (8 - n) (getD s (at + i + 1) 0)) ≡ field o s (8 * at + n + 8 * i) 8
+  field-straddle at n i h =
+      let e : 8 - n + n ≡ 8 = omega arith in
+      let p : 8 * (at + i + 1) ≡ 8 * (at + i) + n + (8 - n) = omega arith in
+      let q : 8 * (at + i) + n ≡ 8 * at + n + 8 * i = omega arith in
+      ap₂ (join o (8 - n) n) (byte-rest (at + i) n h) (byte-first (at + i + 1) n h ∙ ap (λ (k : ℕ). field o s k n) p)
+      ∙ sym (field-split o s (8 * (at + i) + n) (8 - n) n)
+      ∙ ap₂ (field o s) q e
+
+  -- at a byte's place the fields are the bytes
+  pub octets-bytes : (at n : ℕ) → octets o s (8 * at) n ≡ firsts (λ i. getD s (at + i) 0) n
+  unfolding octets
+  octets-bytes at n =
+      firsts-same (λ i. field o s (8 * at + 8 * i) 8) (λ i. getD s (at + i) 0) n
+      (λ i h. let e : 8 * at + 8 * i ≡ 8 * (at + i) = omega arith in ap (λ (p : ℕ). field o s p 8) e ∙ field-byte o s (at + i) (b (at + i)))
+
+  pub octets-whole : (at n : ℕ) → at + n ≤ length s → octets o s (8 * at) n ≡ take n (drop at s)
+  octets-whole at n h =
+      let l : length (take n (drop at s)) ≡ n = simp (length-take, length-drop) (omega arith) in
+      octets-bytes at n
+      ∙ sym (firsts-is (λ i. getD s (at + i) 0) n (take n (drop at s)) l (λ i k. getD-take n (drop at s) i 0 k ∙ getD-drop at s i 0))

@@ -1,0 +1,2 @@
+// Bytes from any bit place of a slice.
+pub mod inner;
