@@ -77,3 +77,7 @@ unfoldable pub afterBytes : ℕ → ℕ → Counts → Counts
 afterBytes len n k =
     cond (leb n (k .lookahead / 8)) (afterTake (8 * n) k)
     (afterBeyond len (n - k .lookahead / 8) (afterTake (8 * (k .lookahead / 8)) k))
+
+-- the counts of the cursor at place p with the fewest bits held: fewer than eight
+abbrev pub countsAt : ℕ → Counts
+countsAt p = record { offset = (p + 7) / 8; lookahead = 8 * ((p + 7) / 8) - p }

@@ -2,3 +2,4 @@ pub mod Counts
 pub mod CountLaws
 pub mod BytesLaws
 pub mod CountExamples
+pub mod PlaceLaws

@@ -3,7 +3,7 @@ use crate::Counts;
 ghost use mathlib.Core.Path.{_≡_};
 ghost use Prim.Native.Nat.{_*_, _≤_};
 ghost use Rattle.bits.specs.Refusals.{limit};
-ghost use Rattle.counts.specs.Counts.{Within, fetch, bitsLeft, bytesLeft, afterRefill, afterRead, afterEights, passedOver, afterBytes};
+ghost use Rattle.counts.specs.Counts.{Within, fetch, bitsLeft, bytesLeft, afterRefill, afterRead, afterEights, passedOver, afterBytes, countsAt};
 
 // How many bytes a refill fetches.
 pub fn fetched(unfetched: usize, lookahead: u32) -> usize
@@ -108,4 +108,16 @@ pub fn after_bytes(len: usize, k: Counts, n: usize) -> Counts
         },
     );
     after_eights(len, f, beyond - over)
+}
+
+// The counts at a place, with the fewest bits held.
+pub fn counts_at(place: usize) -> Counts
+    requires { ⌜ place ≤ 134217728 ⌝ }
+    ensures { λ r. ⌜ r ≡ countsAt place ⌝ }
+{
+    let offset = (place + 7) / 8;
+    Counts {
+        offset: offset,
+        lookahead: (8 * offset - place) as u32,
+    }
 }
