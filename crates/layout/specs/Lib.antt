@@ -1,0 +1,17 @@
+pub mod Layout
+pub mod Plan
+pub mod Check
+pub mod Known
+pub mod Answers
+pub mod Steps
+pub mod TestLaws
+pub mod LayoutLaws
+pub mod DecodeLaws
+pub mod CheckLaws
+pub mod CompileLaws
+pub mod PassLaws
+pub mod SeamLaws
+pub mod AnswerLaws
+pub mod StepLaws
+pub mod SizeLaws
+pub mod Theorems
