@@ -1,20 +1,45 @@
 -- The worked examples that are proved: what is asked, what the definitions answer, and that each answer is the expected one.
 use Prim.Native.Nat.{ℕ, _^_}
 use mathlib.Core.Path.{_≡_, refl}
-use mathlib.Core.List.{List, [], _∷_, map}
+use mathlib.Core.List.{List, [], _∷_, _++_, map}
 use lib.IntN.{ℤ, pos, negsuc}
+use Rattle.bits.specs.declared.Order.{Order}
+use Rattle.bits.specs.declared.Order.the-variants.{Little, Big}
+use Rattle.bits.specs.Refusals.{orElse}
+use Rattle.bits.specs.Field.{position, bit, join, field}
+use Rattle.bits.specs.Word.{held}
 use Rattle.bits.specs.Signed.{signed}
 use Rattle.sign.specs.declared.Extended.{Extended}
 use Rattle.sign.specs.Extend.{extendOf}
+use Rattle.counts.specs.Counts.{afterRead}
+use Rattle.lookahead.specs.State.{registerOf, belongs, stateRefusal}
+use Rattle.reader.specs.declared.Cursor.{Cursor}
+use Rattle.reader.specs.declared.ReadU64.{ReadU64}
+use Rattle.reader.specs.declared.Partial.{Partial}
+use Rattle.reader.specs.Answers.{newOf, readRefusal, readOf, remainderOf, partialOf}
 
 -- what an example asks
 pub data Asked : Type 0 where
   -- sign_extend of a value and a width: its refusal number and its value
   extends : ℕ → ℕ → Asked
+  -- reads of these widths, one after the other, from a fresh cursor of a slice: each one's refusal number and value
+  reads : Order → List ℕ → List ℕ → Asked
+  -- after a read of some bits from a fresh cursor: the partial bits, their value, and the bytes of the remainder
+  remains : Order → List ℕ → ℕ → Asked
+
+-- reads of these widths from a cursor on
+unfoldable pub readings : Order → List ℕ → Cursor → List ℕ → List ℤ
+readings o s c [] = []
+readings o s c (w ∷ ws) = let r : ReadU64 = readOf o s c w in (pos (r .refusal) ∷ pos (r .value) ∷ readings o s (r .cursor) ws)
 
 -- what the definitions answer
 unfoldable pub told : Asked → List ℤ
 told (extends v w) = let r : Extended = extendOf v w in (pos (r .refusal) ∷ r .value ∷ [])
+told (reads o s ws) = readings o s (newOf s .cursor) ws
+told (remains o s n) =
+    let c : Cursor = readOf o s (newOf s .cursor) n .cursor in
+    let p : Partial = partialOf o s c in
+    (pos (p .«partial_bits») ∷ pos (p .«partial_byte») ∷ map pos (remainderOf o s c))
 
 -- an example and its expected answer
 pub record Example : Type 0 where
@@ -28,15 +53,26 @@ a gives e = record { asked = a; expected = e }
 -- the table
 abbrev pub table : List Example
 table =
+    -- P1, P2
+    (reads Little (0xff ∷ 0x04 ∷ []) (1 ∷ 8 ∷ 7 ∷ []) gives (pos 0 ∷ pos 1 ∷ pos 0 ∷ pos 0x7f ∷ pos 0 ∷ pos 2 ∷ []))
+    ∷ (reads Big (0xff ∷ 0x04 ∷ []) (1 ∷ 8 ∷ 7 ∷ []) gives (pos 0 ∷ pos 1 ∷ pos 0 ∷ pos 0xfe ∷ pos 0 ∷ pos 4 ∷ []))
+    -- P3
+    ∷ (reads Little (0xab ∷ 0xcd ∷ 0xef ∷ 0x01 ∷ 0x23 ∷ 0x45 ∷ 0x67 ∷ 0x89 ∷ []) (60 ∷ []) gives (pos 0 ∷ pos 0x0967452301efcdab ∷ []))
+    -- P4
+    ∷ (reads Little [] (0 ∷ 1 ∷ []) gives (pos 0 ∷ pos 0 ∷ pos 9 ∷ pos 0 ∷ []))
+    ∷ (reads Big [] (0 ∷ 1 ∷ []) gives (pos 0 ∷ pos 0 ∷ pos 9 ∷ pos 0 ∷ []))
     -- P5
-    (extends 0 0 gives (pos 0 ∷ pos 0 ∷ []))
+    ∷ (extends 0 0 gives (pos 0 ∷ pos 0 ∷ []))
     ∷ (extends 1 1 gives (pos 0 ∷ negsuc 0 ∷ []))
     ∷ (extends 7 4 gives (pos 0 ∷ pos 7 ∷ []))
     ∷ (extends 8 4 gives (pos 0 ∷ negsuc 7 ∷ []))
     ∷ (extends (2 ^ 63) 64 gives (pos 0 ∷ negsuc 9223372036854775807 ∷ []))
+    -- P8
+    ∷ (remains Big (0x5a ∷ 0xff ∷ []) 3 gives (pos 5 ∷ pos 0x1a ∷ pos 0xff ∷ []))
+    ∷ (remains Little (0x5a ∷ 0xff ∷ []) 3 gives (pos 5 ∷ pos 0x0b ∷ pos 0xff ∷ []))
     ∷ []
 
 -- every example of the table is answered as expected
 pub table-holds : map (λ (e : Example). told (e .asked)) table ≡ map (λ (e : Example). e .expected) table
-unfolding told extendOf signed
+unfolding told readings extendOf signed newOf readRefusal readOf remainderOf partialOf orElse stateRefusal belongs registerOf afterRead position bit join field held
 table-holds = refl

@@ -1,0 +1,157 @@
+-- What each method of a cursor answers, on every input, in the order of the methods.
+use Prim.Native.Nat.{ℕ, _-_, _/_, _%_}
+use mathlib.Core.List.{List, []}
+use mathlib.Core.Bool.{Bool, false, cond}
+use lib.ListN.{length, drop}
+use lib.Dec.{eqb, leb, ltb}
+use Rattle.bits.specs.declared.Order.{Order}
+use Rattle.bits.specs.Refusals.{limit, done, tooLong, tooWide, tooFew, pastLookahead, orElse}
+use Rattle.bits.specs.Field.{field}
+use Rattle.bits.specs.Signed.{signed}
+use Rattle.counts.specs.Counts.{unfetched, afterRefill, afterTake, afterRead, afterBytes}
+use Rattle.octets.specs.Octets.{octets}
+use Rattle.floats.specs.Floats.{singleOf, doubleOf}
+use Rattle.reader.specs.declared.Cursor.{Cursor}
+use Rattle.reader.specs.declared.ReadBool.{ReadBool}
+use Rattle.reader.specs.declared.ReadU8.{ReadU8}
+use Rattle.reader.specs.declared.ReadI8.{ReadI8}
+use Rattle.reader.specs.declared.ReadU16.{ReadU16}
+use Rattle.reader.specs.declared.ReadI16.{ReadI16}
+use Rattle.reader.specs.declared.ReadU32.{ReadU32}
+use Rattle.reader.specs.declared.ReadI32.{ReadI32}
+use Rattle.reader.specs.declared.ReadF32.{ReadF32}
+use Rattle.reader.specs.declared.ReadU64.{ReadU64}
+use Rattle.reader.specs.declared.ReadI64.{ReadI64}
+use Rattle.reader.specs.declared.ReadF64.{ReadF64}
+use Rattle.reader.specs.declared.Counted.{Counted}
+use Rattle.reader.specs.declared.Tested.{Tested}
+use Rattle.reader.specs.declared.Ahead.{Ahead}
+use Rattle.reader.specs.declared.Peeked.{Peeked}
+use Rattle.reader.specs.declared.Moved.{Moved}
+use Rattle.reader.specs.declared.Partial.{Partial}
+use Rattle.reader.specs.Cursor.{countsIn, cursorAt, place, bitsLeft, bytesLeft, cursorRefusal}
+
+-- ---- making one
+
+-- a fresh cursor is all zeros, also where the slice is past the limit
+unfoldable pub newOf : List ℕ → Moved
+newOf s =
+    record {
+      refusal = cond (ltb limit (length s)) tooLong done;
+      cursor = record { offset = 0; lookahead = 0; register = 0 };
+    }
+
+-- ---- fields
+
+-- 1 and 2, then 3 for a width above 64, then 9 where fewer bits are left
+unfoldable pub readRefusal : Order → List ℕ → Cursor → ℕ → ℕ
+readRefusal o s c w = orElse (cursorRefusal o s c) (cond (ltb 64 w) tooWide (cond (ltb (bitsLeft s c) w) tooFew done))
+
+-- the field of w bits at the place, and the cursor behind it
+unfoldable pub readOf : Order → List ℕ → Cursor → ℕ → ReadU64
+readOf o s c w =
+    cond (eqb (readRefusal o s c w) done)
+    (record { refusal = done; value = field o s (place c) w; cursor = cursorAt o s (afterRead (length s) w (countsIn c)) })
+    (record { refusal = readRefusal o s c w; value = 0; cursor = c })
+
+-- the same answer with its value as a bool, at a narrower type, as a signed number of w bits, or as a float
+abbrev pub asBool : ReadU64 → ReadBool
+asBool r = record { refusal = r .refusal; value = eqb (r .value) 1; cursor = r .cursor }
+
+abbrev pub asU8 : ReadU64 → ReadU8
+asU8 r = record { refusal = r .refusal; value = r .value; cursor = r .cursor }
+
+abbrev pub asI8 : ReadU64 → ReadI8
+asI8 r = record { refusal = r .refusal; value = signed 8 (r .value); cursor = r .cursor }
+
+abbrev pub asU16 : ReadU64 → ReadU16
+asU16 r = record { refusal = r .refusal; value = r .value; cursor = r .cursor }
+
+abbrev pub asI16 : ReadU64 → ReadI16
+asI16 r = record { refusal = r .refusal; value = signed 16 (r .value); cursor = r .cursor }
+
+abbrev pub asU32 : ReadU64 → ReadU32
+asU32 r = record { refusal = r .refusal; value = r .value; cursor = r .cursor }
+
+abbrev pub asI32 : ReadU64 → ReadI32
+asI32 r = record { refusal = r .refusal; value = signed 32 (r .value); cursor = r .cursor }
+
+abbrev pub asF32 : ReadU64 → ReadF32
+asF32 r = record { refusal = r .refusal; value = singleOf (r .value); cursor = r .cursor }
+
+abbrev pub asSigned : ℕ → ReadU64 → ReadI64
+asSigned w r = record { refusal = r .refusal; value = signed w (r .value); cursor = r .cursor }
+
+abbrev pub asF64 : ReadU64 → ReadF64
+asF64 r = record { refusal = r .refusal; value = doubleOf (r .value); cursor = r .cursor }
+
+-- ---- counts
+
+-- a number that is told of a cursor that belongs
+unfoldable pub countedOf : Order → List ℕ → Cursor → ℕ → Counted
+countedOf o s c n = record { refusal = cursorRefusal o s c; value = cond (eqb (cursorRefusal o s c) done) n 0 }
+
+-- a test that is made of a cursor that belongs
+unfoldable pub testedOf : Order → List ℕ → Cursor → Bool → Tested
+testedOf o s c b = record { refusal = cursorRefusal o s c; value = cond (eqb (cursorRefusal o s c) done) b false }
+
+-- ---- bytes
+
+-- 1 also for a buffer past the limit; 9 where fewer than n whole bytes are left
+unfoldable pub bytesRefusal : Order → List ℕ → Cursor → ℕ → ℕ
+bytesRefusal o s c n =
+    orElse (cond (ltb limit n) tooLong done) (orElse (cursorRefusal o s c) (cond (ltb (bytesLeft s c) n) tooFew done))
+
+unfoldable pub bytesOf : Order → List ℕ → Cursor → ℕ → Moved
+bytesOf o s c n =
+    record {
+      refusal = bytesRefusal o s c n;
+      cursor = cond (eqb (bytesRefusal o s c n) done) (cursorAt o s (afterBytes (length s) n (countsIn c))) c;
+    }
+
+-- the buffer: fields of eight bits from the place on, or as it was
+unfoldable pub bytesOut : Order → List ℕ → Cursor → List ℕ → List ℕ
+bytesOut o s c out = cond (eqb (bytesRefusal o s c (length out)) done) (octets o s (place c) (length out)) out
+
+-- ---- manual mode
+
+-- 1 and 2, then 10 for more bits than the lookahead has
+unfoldable pub manualRefusal : Order → List ℕ → Cursor → ℕ → ℕ
+manualRefusal o s c n = orElse (cursorRefusal o s c) (cond (ltb (c .lookahead) n) pastLookahead done)
+
+unfoldable pub peekOf : Order → List ℕ → Cursor → ℕ → Peeked
+peekOf o s c n =
+    record {
+      refusal = manualRefusal o s c n;
+      value = cond (eqb (manualRefusal o s c n) done) (field o s (place c) n) 0;
+    }
+
+unfoldable pub consumeOf : Order → List ℕ → Cursor → ℕ → Moved
+consumeOf o s c n =
+    record {
+      refusal = manualRefusal o s c n;
+      cursor = cond (eqb (manualRefusal o s c n) done) (cursorAt o s (afterTake n (countsIn c))) c;
+    }
+
+unfoldable pub aheadOf : Order → List ℕ → Cursor → Ahead
+aheadOf o s c = record { refusal = cursorRefusal o s c; value = cond (eqb (cursorRefusal o s c) done) (c .lookahead) 0 }
+
+unfoldable pub refillOf : Order → List ℕ → Cursor → Moved
+refillOf o s c =
+    record {
+      refusal = cursorRefusal o s c;
+      cursor = cond (eqb (cursorRefusal o s c) done) (cursorAt o s (afterRefill (length s) (countsIn c))) c;
+    }
+
+-- ---- remainder
+
+-- the slice from the first whole unread byte on; empty with a refusal
+unfoldable pub remainderOf : Order → List ℕ → Cursor → List ℕ
+remainderOf o s c = cond (eqb (cursorRefusal o s c) done) (drop (c .offset - c .lookahead / 8) s) []
+
+-- the bits before that byte: how many, and their value
+unfoldable pub partialOf : Order → List ℕ → Cursor → Partial
+partialOf o s c =
+    cond (eqb (cursorRefusal o s c) done)
+    (record { refusal = done; «partial_bits» = c .lookahead % 8; «partial_byte» = field o s (place c) (c .lookahead % 8) })
+    (record { refusal = cursorRefusal o s c; «partial_bits» = 0; «partial_byte» = 0 })

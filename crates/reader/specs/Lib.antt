@@ -1,0 +1,4 @@
+pub mod Cursor
+pub mod Answers
+pub mod AnswerLaws
+pub mod ReadLaws

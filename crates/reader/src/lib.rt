@@ -1,0 +1,553 @@
+// A cursor over a lent slice: bits, fields and bytes read in either order. Each method takes the slice too, tests that the cursor
+// belongs to it, and hands the cursor that goes on back by value. The methods stand in the order of the Rust's BitReader.
+use bits::Order;
+use bits::refusals;
+use floats::Double;
+use floats::Single;
+ghost use mathlib.Core.Path.{_≡_};
+ghost use Prim.Native.Nat.{_%_};
+ghost use lib.Dec.{eqb, leb};
+ghost use lib.ListN.{length};
+ghost use Rattle.counts.specs.Counts.{unfetched};
+ghost use Rattle.reader.specs.Cursor.{countsIn, place, bitsLeft, bytesLeft};
+ghost use Rattle.reader.specs.Answers.{newOf, readOf, asBool, asU8, asI8, asU16, asI16, asU32, asI32, asF32, asSigned, asF64, countedOf, testedOf, bytesOf, bytesOut, peekOf, consumeOf, aheadOf, refillOf, remainderOf, partialOf};
+
+pub mod inner;
+
+// The offset of the first byte not yet fetched, the bits fetched and not yet taken, and the register that holds them: at its low end
+// in little-endian order, at its high end in big-endian order, the other bits zero.
+pub struct Cursor {
+    pub offset: usize,
+    pub lookahead: u32,
+    pub register: u64,
+}
+
+// The answers of reads: a refusal number, a value (0 where there is none), and the cursor that goes on.
+pub struct ReadBool {
+    pub refusal: u32,
+    pub value: bool,
+    pub cursor: Cursor,
+}
+
+pub struct ReadU8 {
+    pub refusal: u32,
+    pub value: u8,
+    pub cursor: Cursor,
+}
+
+pub struct ReadI8 {
+    pub refusal: u32,
+    pub value: i8,
+    pub cursor: Cursor,
+}
+
+pub struct ReadU16 {
+    pub refusal: u32,
+    pub value: u16,
+    pub cursor: Cursor,
+}
+
+pub struct ReadI16 {
+    pub refusal: u32,
+    pub value: i16,
+    pub cursor: Cursor,
+}
+
+pub struct ReadU32 {
+    pub refusal: u32,
+    pub value: u32,
+    pub cursor: Cursor,
+}
+
+pub struct ReadI32 {
+    pub refusal: u32,
+    pub value: i32,
+    pub cursor: Cursor,
+}
+
+pub struct ReadF32 {
+    pub refusal: u32,
+    pub value: Single,
+    pub cursor: Cursor,
+}
+
+pub struct ReadU64 {
+    pub refusal: u32,
+    pub value: u64,
+    pub cursor: Cursor,
+}
+
+pub struct ReadI64 {
+    pub refusal: u32,
+    pub value: i64,
+    pub cursor: Cursor,
+}
+
+pub struct ReadF64 {
+    pub refusal: u32,
+    pub value: Double,
+    pub cursor: Cursor,
+}
+
+// A refusal number, and a count, 0 where there is none.
+pub struct Counted {
+    pub refusal: u32,
+    pub value: usize,
+}
+
+// A refusal number, and whether it is so, false where it is not told.
+pub struct Tested {
+    pub refusal: u32,
+    pub value: bool,
+}
+
+// A refusal number, and the bits of lookahead.
+pub struct Ahead {
+    pub refusal: u32,
+    pub value: u32,
+}
+
+// A refusal number, and the bits that were looked at, 0 where there are none.
+pub struct Peeked {
+    pub refusal: u32,
+    pub value: u64,
+}
+
+// A refusal number, and the cursor that goes on: the one that came where the number is not 0.
+pub struct Moved {
+    pub refusal: u32,
+    pub cursor: Cursor,
+}
+
+// A refusal number, and the bits before the first whole unread byte: how many, and as a number.
+pub struct Partial {
+    pub refusal: u32,
+    pub partial_bits: u8,
+    pub partial_byte: u8,
+}
+
+impl Cursor {
+    // A cursor at the start of a slice, or refusal 1; all zeros either way.
+    pub fn new(src: &[u8]) -> Moved
+        ensures { λ r. ⌜ r ≡ newOf (now (src .entry)) ⌝ }
+    {
+        let cursor = Cursor {
+            offset: 0,
+            lookahead: 0,
+            register: 0,
+        };
+        if refusals::LIMIT < src.len() {
+            return Moved {
+                refusal: refusals::TOO_LONG,
+                cursor: cursor,
+            };
+        }
+        Moved {
+            refusal: refusals::DONE,
+            cursor: cursor,
+        }
+    }
+
+    // One bit, as a bool.
+    pub fn read_bit(self, order: Order, src: &[u8]) -> ReadBool
+        ensures { λ r. ⌜ r ≡ asBool (readOf order (now (src .entry)) self 1) ⌝ }
+    {
+        let read = self.read_bits(order, src, 1);
+        let next = read.cursor;
+        ReadBool {
+            refusal: read.refusal,
+            value: read.value == 1,
+            cursor: next,
+        }
+    }
+
+    // Eight bits.
+    pub fn read_u8(self, order: Order, src: &[u8]) -> ReadU8
+        ensures { λ r. ⌜ r ≡ asU8 (readOf order (now (src .entry)) self 8) ⌝ }
+    {
+        let read = self.read_bits(order, src, 8);
+        let next = read.cursor;
+        ReadU8 {
+            refusal: read.refusal,
+            value: read.value as u8,
+            cursor: next,
+        }
+    }
+
+    // Eight bits as a signed number.
+    pub fn read_i8(self, order: Order, src: &[u8]) -> ReadI8
+        ensures { λ r. ⌜ r ≡ asI8 (readOf order (now (src .entry)) self 8) ⌝ }
+    {
+        let read = self.read_bits(order, src, 8);
+        let next = read.cursor;
+        let number = sign::inner::extend(read.value, 8);
+        ReadI8 {
+            refusal: read.refusal,
+            value: number as i8,
+            cursor: next,
+        }
+    }
+
+    // Sixteen bits.
+    pub fn read_u16(self, order: Order, src: &[u8]) -> ReadU16
+        ensures { λ r. ⌜ r ≡ asU16 (readOf order (now (src .entry)) self 16) ⌝ }
+    {
+        let read = self.read_bits(order, src, 16);
+        let next = read.cursor;
+        ReadU16 {
+            refusal: read.refusal,
+            value: read.value as u16,
+            cursor: next,
+        }
+    }
+
+    // Sixteen bits as a signed number.
+    pub fn read_i16(self, order: Order, src: &[u8]) -> ReadI16
+        ensures { λ r. ⌜ r ≡ asI16 (readOf order (now (src .entry)) self 16) ⌝ }
+    {
+        let read = self.read_bits(order, src, 16);
+        let next = read.cursor;
+        let number = sign::inner::extend(read.value, 16);
+        ReadI16 {
+            refusal: read.refusal,
+            value: number as i16,
+            cursor: next,
+        }
+    }
+
+    // 32 bits.
+    pub fn read_u32(self, order: Order, src: &[u8]) -> ReadU32
+        ensures { λ r. ⌜ r ≡ asU32 (readOf order (now (src .entry)) self 32) ⌝ }
+    {
+        let read = self.read_bits(order, src, 32);
+        let next = read.cursor;
+        ReadU32 {
+            refusal: read.refusal,
+            value: read.value as u32,
+            cursor: next,
+        }
+    }
+
+    // 32 bits as a signed number.
+    pub fn read_i32(self, order: Order, src: &[u8]) -> ReadI32
+        ensures { λ r. ⌜ r ≡ asI32 (readOf order (now (src .entry)) self 32) ⌝ }
+    {
+        let read = self.read_bits(order, src, 32);
+        let next = read.cursor;
+        let number = sign::inner::extend(read.value, 32);
+        ReadI32 {
+            refusal: read.refusal,
+            value: number as i32,
+            cursor: next,
+        }
+    }
+
+    // 32 bits as a single, every pattern kept.
+    pub fn read_f32(self, order: Order, src: &[u8]) -> ReadF32
+        ensures { λ r. ⌜ r ≡ asF32 (readOf order (now (src .entry)) self 32) ⌝ }
+    {
+        let read = self.read_bits(order, src, 32);
+        let next = read.cursor;
+        let number = floats::single_of_bits(read.value as u32);
+        ReadF32 {
+            refusal: read.refusal,
+            value: number,
+            cursor: next,
+        }
+    }
+
+    // 64 bits.
+    pub fn read_u64(self, order: Order, src: &[u8]) -> ReadU64
+        ensures { λ r. ⌜ r ≡ readOf order (now (src .entry)) self 64 ⌝ }
+    {
+        self.read_bits(order, src, 64)
+    }
+
+    // 64 bits as a signed number.
+    pub fn read_i64(self, order: Order, src: &[u8]) -> ReadI64
+        ensures { λ r. ⌜ r ≡ asSigned 64 (readOf order (now (src .entry)) self 64) ⌝ }
+    {
+        self.read_signed_bits(order, src, 64)
+    }
+
+    // 64 bits as a double, every pattern kept.
+    pub fn read_f64(self, order: Order, src: &[u8]) -> ReadF64
+        ensures { λ r. ⌜ r ≡ asF64 (readOf order (now (src .entry)) self 64) ⌝ }
+    {
+        let read = self.read_bits(order, src, 64);
+        let next = read.cursor;
+        let number = floats::double_of_bits(read.value);
+        ReadF64 {
+            refusal: read.refusal,
+            value: number,
+            cursor: next,
+        }
+    }
+
+    // A field of 0 to 64 bits. Refusals 1, 2, 3 and 9.
+    pub fn read_bits(self, order: Order, src: &[u8], bits: u32) -> ReadU64
+        ensures { λ r. ⌜ r ≡ readOf order (now (src .entry)) self bits ⌝ }
+    {
+        let state = inner::state_in(self);
+        let refusal = inner::read_refusal(order, src, state, bits);
+        if refusal != refusals::DONE {
+            return ReadU64 {
+                refusal: refusal,
+                value: 0,
+                cursor: self,
+            };
+        }
+        let taken = lookahead::inner::read_bits(order, src, state, bits);
+        let next = taken.state;
+        ReadU64 {
+            refusal: refusals::DONE,
+            value: taken.value,
+            cursor: inner::cursor_with(next),
+        }
+    }
+
+    // A field of 0 to 64 bits as a signed number. Refusals 1, 2, 3 and 9.
+    pub fn read_signed_bits(self, order: Order, src: &[u8], bits: u32) -> ReadI64
+        ensures { λ r. ⌜ r ≡ asSigned bits (readOf order (now (src .entry)) self bits) ⌝ }
+    {
+        let read = self.read_bits(order, src, bits);
+        let next = read.cursor;
+        if read.refusal != refusals::DONE {
+            return ReadI64 {
+                refusal: read.refusal,
+                value: 0,
+                cursor: next,
+            };
+        }
+        ReadI64 {
+            refusal: refusals::DONE,
+            value: sign::inner::extend(read.value, bits),
+            cursor: next,
+        }
+    }
+
+    // The whole bytes left: the partial one is not counted.
+    pub fn bytes_remaining(self, order: Order, src: &[u8]) -> Counted
+        ensures { λ r. ⌜ r ≡ countedOf order (now (src .entry)) self (bytesLeft (now (src .entry)) self) ⌝ }
+    {
+        let refusal = lookahead::inner::refusal(order, src, inner::state_in(self));
+        if refusal != refusals::DONE {
+            return Counted {
+                refusal: refusal,
+                value: 0,
+            };
+        }
+        Counted {
+            refusal: refusals::DONE,
+            value: counts::inner::bytes_left(src.len(), inner::counts_in(self)),
+        }
+    }
+
+    // The bytes not yet fetched.
+    pub fn unbuffered_bytes_remaining(self, order: Order, src: &[u8]) -> Counted
+        ensures { λ r. ⌜ r ≡ countedOf order (now (src .entry)) self (unfetched (length (now (src .entry))) (countsIn self)) ⌝ }
+    {
+        let refusal = lookahead::inner::refusal(order, src, inner::state_in(self));
+        if refusal != refusals::DONE {
+            return Counted {
+                refusal: refusal,
+                value: 0,
+            };
+        }
+        Counted {
+            refusal: refusals::DONE,
+            value: src.len() - self.offset,
+        }
+    }
+
+    // The bits left.
+    pub fn bits_remaining(self, order: Order, src: &[u8]) -> Counted
+        ensures { λ r. ⌜ r ≡ countedOf order (now (src .entry)) self (bitsLeft (now (src .entry)) self) ⌝ }
+    {
+        let refusal = lookahead::inner::refusal(order, src, inner::state_in(self));
+        if refusal != refusals::DONE {
+            return Counted {
+                refusal: refusal,
+                value: 0,
+            };
+        }
+        Counted {
+            refusal: refusals::DONE,
+            value: inner::bits_left(src, self),
+        }
+    }
+
+    // Whether as many bits are left; any number may be asked.
+    pub fn has_bits_remaining(self, order: Order, src: &[u8], bits: usize) -> Tested
+        ensures { λ r. ⌜ r ≡ testedOf order (now (src .entry)) self (leb bits (bitsLeft (now (src .entry)) self)) ⌝ }
+    {
+        let refusal = lookahead::inner::refusal(order, src, inner::state_in(self));
+        if refusal != refusals::DONE {
+            return Tested {
+                refusal: refusal,
+                value: false,
+            };
+        }
+        Tested {
+            refusal: refusals::DONE,
+            value: bits <= inner::bits_left(src, self),
+        }
+    }
+
+    // Fills the buffer with fields of eight bits. Refusals 1 (also for the buffer), 2 and 9; the buffer is untouched then.
+    pub fn read_bytes(self, order: Order, src: &[u8], buf: &mut [u8]) -> Moved
+        ensures answer { λ r. ⌜ r ≡ bytesOf order (now (src .entry)) self (length (now (buf .entry))) ⌝ }
+        ensures memory { λ _. ⌜ now (buf .exit) ≡ bytesOut order (now (src .entry)) self (now (buf .entry)) ⌝ }
+    {
+        let state = inner::state_in(self);
+        let refusal = inner::bytes_refusal(order, src, state, buf.len());
+        if refusal != refusals::DONE {
+            return Moved {
+                refusal: refusal,
+                cursor: self,
+            };
+        }
+        Moved {
+            refusal: refusals::DONE,
+            cursor: inner::cursor_with(inner::read_bytes(order, src, state, buf)),
+        }
+    }
+
+    // The first bits of the lookahead, which stay. Refusals 1, 2 and 10.
+    pub fn peek(self, order: Order, src: &[u8], count: u32) -> Peeked
+        ensures { λ r. ⌜ r ≡ peekOf order (now (src .entry)) self count ⌝ }
+    {
+        let state = inner::state_in(self);
+        let refusal = inner::manual_refusal(order, src, state, count);
+        if refusal != refusals::DONE {
+            return Peeked {
+                refusal: refusal,
+                value: 0,
+            };
+        }
+        Peeked {
+            refusal: refusals::DONE,
+            value: lookahead::inner::peek(order, src, state, count),
+        }
+    }
+
+    // The cursor without the first bits of its lookahead. Refusals 1, 2 and 10.
+    pub fn consume(self, order: Order, src: &[u8], count: u32) -> Moved
+        ensures { λ r. ⌜ r ≡ consumeOf order (now (src .entry)) self count ⌝ }
+    {
+        let state = inner::state_in(self);
+        let refusal = inner::manual_refusal(order, src, state, count);
+        if refusal != refusals::DONE {
+            return Moved {
+                refusal: refusal,
+                cursor: self,
+            };
+        }
+        Moved {
+            refusal: refusals::DONE,
+            cursor: inner::cursor_with(lookahead::inner::consume(order, src, state, count)),
+        }
+    }
+
+    // The bits of lookahead.
+    pub fn lookahead_bits(self, order: Order, src: &[u8]) -> Ahead
+        ensures { λ r. ⌜ r ≡ aheadOf order (now (src .entry)) self ⌝ }
+    {
+        let refusal = lookahead::inner::refusal(order, src, inner::state_in(self));
+        if refusal != refusals::DONE {
+            return Ahead {
+                refusal: refusal,
+                value: 0,
+            };
+        }
+        Ahead {
+            refusal: refusals::DONE,
+            value: self.lookahead,
+        }
+    }
+
+    // The cursor with as many more whole bytes in its lookahead as the slice and 63 bits allow.
+    pub fn refill_lookahead(self, order: Order, src: &[u8]) -> Moved
+        ensures { λ r. ⌜ r ≡ refillOf order (now (src .entry)) self ⌝ }
+    {
+        let state = inner::state_in(self);
+        let refusal = lookahead::inner::refusal(order, src, state);
+        if refusal != refusals::DONE {
+            return Moved {
+                refusal: refusal,
+                cursor: self,
+            };
+        }
+        Moved {
+            refusal: refusals::DONE,
+            cursor: inner::cursor_with(lookahead::inner::refill(order, src, state)),
+        }
+    }
+
+    // Whether no bit is left.
+    pub fn is_empty(self, order: Order, src: &[u8]) -> Tested
+        ensures { λ r. ⌜ r ≡ testedOf order (now (src .entry)) self (eqb (bitsLeft (now (src .entry)) self) 0) ⌝ }
+    {
+        let refusal = lookahead::inner::refusal(order, src, inner::state_in(self));
+        if refusal != refusals::DONE {
+            return Tested {
+                refusal: refusal,
+                value: false,
+            };
+        }
+        Tested {
+            refusal: refusals::DONE,
+            value: inner::bits_left(src, self) == 0,
+        }
+    }
+
+    // Whether reading goes on at the start of a byte.
+    pub fn byte_aligned(self, order: Order, src: &[u8]) -> Tested
+        ensures { λ r. ⌜ r ≡ testedOf order (now (src .entry)) self (eqb (place self % 8) 0) ⌝ }
+    {
+        let refusal = lookahead::inner::refusal(order, src, inner::state_in(self));
+        if refusal != refusals::DONE {
+            return Tested {
+                refusal: refusal,
+                value: false,
+            };
+        }
+        Tested {
+            refusal: refusals::DONE,
+            value: self.lookahead % 8 == 0,
+        }
+    }
+
+    // The part of the slice from the first whole unread byte on; empty on refusal 1 or 2, which `partial` tells.
+    pub fn remainder(self, order: Order, src: &[u8]) -> &[u8]
+        ensures { λ r. ⌜ now r ≡ remainderOf order (now (src .entry)) self ⌝ }
+    {
+        let refusal = lookahead::inner::refusal(order, src, inner::state_in(self));
+        if refusal != refusals::DONE {
+            return &src[..0];
+        }
+        let start = self.offset - (self.lookahead / 8) as usize;
+        &src[start..]
+    }
+
+    // The bits before the remainder: fewer than eight, and their value.
+    pub fn partial(self, order: Order, src: &[u8]) -> Partial
+        ensures { λ r. ⌜ r ≡ partialOf order (now (src .entry)) self ⌝ }
+    {
+        let state = inner::state_in(self);
+        let refusal = lookahead::inner::refusal(order, src, state);
+        if refusal != refusals::DONE {
+            return Partial {
+                refusal: refusal,
+                partial_bits: 0,
+                partial_byte: 0,
+            };
+        }
+        let bits = self.lookahead % 8;
+        Partial {
+            refusal: refusals::DONE,
+            partial_bits: bits as u8,
+            partial_byte: lookahead::inner::peek(order, src, state, bits) as u8,
+        }
+    }
+}
