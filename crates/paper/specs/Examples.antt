@@ -1,13 +1,14 @@
 -- The worked examples that are proved: what is asked, what the definitions answer, and that each answer is the expected one.
 use Prim.Native.Nat.{ℕ, _^_}
 use mathlib.Core.Path.{_≡_, refl}
-use mathlib.Core.List.{List, [], _∷_, _++_, map}
+use mathlib.Core.List.{List, [], _∷_, map}
+use lib.ListN.{length}
 use lib.IntN.{ℤ, pos, negsuc}
 use Rattle.bits.specs.declared.Order.{Order}
 use Rattle.bits.specs.declared.Order.the-variants.{Little, Big}
 use Rattle.bits.specs.Refusals.{orElse}
 use Rattle.bits.specs.Field.{position, bit, join, field}
-use Rattle.bits.specs.Word.{held}
+use Rattle.bits.specs.Word.{first, rest, held}
 use Rattle.bits.specs.Signed.{signed}
 use Rattle.sign.specs.declared.Extended.{Extended}
 use Rattle.sign.specs.Extend.{extendOf}
@@ -17,6 +18,21 @@ use Rattle.reader.specs.declared.Cursor.{Cursor}
 use Rattle.reader.specs.declared.ReadU64.{ReadU64}
 use Rattle.reader.specs.declared.Partial.{Partial}
 use Rattle.reader.specs.Answers.{newOf, readRefusal, readOf, remainderOf, partialOf}
+use Rattle.packing.specs.Packing as P
+use Rattle.packing.specs.Packing.{bytesOf, put, putOut}
+use Rattle.writer.specs.declared.Writer.{Writer}
+use Rattle.writer.specs.Writer.{oversized, writeRefusal}
+use Rattle.writer.specs.Answers as W
+use Rattle.writer.specs.Answers.{writeOf, writeOut, flushOf, flushOut}
+
+-- a field to write: its width and its value
+pub record Field : Type 0 where
+  pub width : ℕ
+  pub value : ℕ
+
+infixl 70 _bits_
+abbrev pub _bits_ : ℕ → ℕ → Field
+w bits v = record { width = w; value = v }
 
 -- what an example asks
 pub data Asked : Type 0 where
@@ -24,6 +40,8 @@ pub data Asked : Type 0 where
   extends : ℕ → ℕ → Asked
   -- reads of these widths, one after the other, from a fresh cursor of a slice: each one's refusal number and value
   reads : Order → List ℕ → List ℕ → Asked
+  -- writes of these widths and values by a fresh writer into an output, and a flush: each one's refusal number, and the output
+  writes : Order → List ℕ → List Field → Asked
   -- after a read of some bits from a fresh cursor: the partial bits, their value, and the bytes of the remainder
   remains : Order → List ℕ → ℕ → Asked
 
@@ -32,10 +50,18 @@ unfoldable pub readings : Order → List ℕ → Cursor → List ℕ → List �
 readings o s c [] = []
 readings o s c (w ∷ ws) = let r : ReadU64 = readOf o s c w in (pos (r .refusal) ∷ pos (r .value) ∷ readings o s (r .cursor) ws)
 
+-- writes of these fields from a writer on, and a flush
+unfoldable pub writings : Order → List ℕ → Writer → List Field → List ℤ
+writings o s w [] = pos (flushOf o (length s) w .refusal) ∷ map pos (flushOut o s w)
+writings o s w (f ∷ fs) =
+    pos (writeOf o (length s) w (f .width) (f .value) .refusal)
+    ∷ writings o (writeOut o s w (f .width) (f .value)) (writeOf o (length s) w (f .width) (f .value) .writer) fs
+
 -- what the definitions answer
 unfoldable pub told : Asked → List ℤ
 told (extends v w) = let r : Extended = extendOf v w in (pos (r .refusal) ∷ r .value ∷ [])
 told (reads o s ws) = readings o s (newOf s .cursor) ws
+told (writes o s fs) = writings o s (W.newOf (length s) .writer) fs
 told (remains o s n) =
     let c : Cursor = readOf o s (newOf s .cursor) n .cursor in
     let p : Partial = partialOf o s c in
@@ -67,6 +93,12 @@ table =
     ∷ (extends 7 4 gives (pos 0 ∷ pos 7 ∷ []))
     ∷ (extends 8 4 gives (pos 0 ∷ negsuc 7 ∷ []))
     ∷ (extends (2 ^ 63) 64 gives (pos 0 ∷ negsuc 9223372036854775807 ∷ []))
+    -- P6: the output's third byte is untouched
+    ∷ (writes Big (9 ∷ 9 ∷ 9 ∷ []) (3 bits 5 ∷ 7 bits 1 ∷ []) gives (pos 0 ∷ pos 0 ∷ pos 0 ∷ pos 0xa0 ∷ pos 0x40 ∷ pos 9 ∷ []))
+    ∷ (writes Little (9 ∷ 9 ∷ 9 ∷ []) (3 bits 5 ∷ 7 bits 1 ∷ []) gives (pos 0 ∷ pos 0 ∷ pos 0 ∷ pos 0x0d ∷ pos 0x00 ∷ pos 9 ∷ []))
+    -- P7
+    ∷ (writes Big (9 ∷ []) (3 bits 8 ∷ 0 bits 8 ∷ []) gives (pos 4 ∷ pos 0 ∷ pos 0 ∷ pos 9 ∷ []))
+    ∷ (writes Little (9 ∷ []) (3 bits 8 ∷ 0 bits 8 ∷ []) gives (pos 4 ∷ pos 0 ∷ pos 0 ∷ pos 9 ∷ []))
     -- P8
     ∷ (remains Big (0x5a ∷ 0xff ∷ []) 3 gives (pos 5 ∷ pos 0x1a ∷ pos 0xff ∷ []))
     ∷ (remains Little (0x5a ∷ 0xff ∷ []) 3 gives (pos 5 ∷ pos 0x0b ∷ pos 0xff ∷ []))
@@ -74,5 +106,5 @@ table =
 
 -- every example of the table is answered as expected
 pub table-holds : map (λ (e : Example). told (e .asked)) table ≡ map (λ (e : Example). e .expected) table
-unfolding told readings extendOf signed newOf readRefusal readOf remainderOf partialOf orElse stateRefusal belongs registerOf afterRead position bit join field held
+unfolding told readings writings oversized writeRefusal writeOf writeOut flushOf flushOut W.newOf P.belongs P.stateRefusal bytesOf put putOut first rest extendOf signed newOf readRefusal readOf remainderOf partialOf orElse stateRefusal belongs registerOf afterRead position bit join field held
 table-holds = refl

@@ -1,0 +1,4 @@
+pub mod RoundTrip
+pub mod WayOut
+pub mod WayBack
+pub mod ThereAndBack

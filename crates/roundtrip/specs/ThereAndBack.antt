@@ -1,0 +1,89 @@
+-- The round trip holds: what was written and flushed is, in the written bytes, all entries as one number with zeros behind it.
+use Prim.Native.Nat.{ℕ, _+_, _*_, _/_, _≤_}
+use mathlib.Core.Path.{_≡_, sym, ap, ap₂, _∙_, subst}
+use mathlib.Core.List.{List, _∷_}
+use lib.ListN.{length, take}
+use lib.Seq.{length-take-le, getD-take}
+use native.Mathlib.Nat.{zero-add}
+use native.Mathlib.Omega.{arith}
+use Rattle.bits.specs.declared.Order.{Order}
+use Rattle.bits.specs.Refusals.{limit, done}
+use Rattle.bits.specs.Field.{field, join}
+use Rattle.bits.specs.JoinLaws.{none-join}
+use Rattle.bits.specs.FieldLaws.{field-same, bit-same}
+use Rattle.packing.specs.Packing.{Belongs, story}
+use Rattle.packing.specs.BelongsLaws.{belongs-refusal}
+use Rattle.packing.specs.StoryLaws.{story-aligned}
+use Rattle.reader.specs.ReadLaws.{fresh-done, fresh-belongs, fresh-place, fresh-left}
+use Rattle.reader.specs.Cursor.{place}
+use Rattle.reader.specs.Answers as R
+use Rattle.writer.specs.declared.Writer.{Writer}
+use Rattle.writer.specs.Writer.{stateIn, bitsWritten, writerRefusal, padding}
+use Rattle.writer.specs.Answers as W
+use Rattle.writer.specs.Answers.{flushOf, flushOut}
+use Rattle.writer.specs.WriteLaws.{new-done, new-belongs, new-written, new-story, Stored, flush-stored, flush-whole}
+use Rattle.roundtrip.specs.RoundTrip.{size, Written, writeAll, flushed, bytes, back, RoundTrip}
+use Rattle.roundtrip.specs.WayOut.{pack, Went, all-written}
+use Rattle.roundtrip.specs.WayBack.{Came, all-read}
+
+-- ---- the written bytes alone
+
+-- after a flush, they are all that was written, and the padding
+record Alone (o : Order) (n pad x : ℕ) (b : List ℕ) : Type 0 where
+  pub short : length b ≤ limit
+  pub whole : 8 * length b ≡ n + pad
+  pub holds : field o b 0 (n + pad) ≡ join o n pad x 0
+
+alone : (o : Order) (s : List ℕ) (w : Writer) → Belongs (length s) (stateIn w)
+    → Alone o (bitsWritten w) (padding w) (story o s (stateIn w)) (take (flushOf o (length s) w .writer .written) (flushOut o s w))
+alone o s w h =
+    let z : writerRefusal (length s) w ≡ done = belongs-refusal (length s) (stateIn w) h in
+    let m : Writer = flushOf o (length s) w .writer in
+    let t : List ℕ = flushOut o s w in
+    let b : List ℕ = take (m .written) t in
+    let f : Stored o s w (padding w) 0 t (flushOf o (length s) w) = flush-stored o s w z in
+    let e : (m .held ≡ 0) × (m .number ≡ 0) = flush-whole o s w z in
+    let all : 8 * m .written ≡ bitsWritten w + padding w = omega (arith, f .written, e .0) in
+    let most : m .written ≤ length t = omega (arith, f .belongs .within, f .same-length) in
+    let l : length b ≡ m .written = length-take-le (m .written) t most in
+    record {
+      short = omega (arith, f .same-length, f .belongs .short);
+      whole = omega arith;
+      holds =
+          ap (field o b 0) (sym all)
+          ∙ field-same o b t 0 0 (8 * m .written) (λ k lt. bit-same o b t (0 + k) (getD-take (m .written) t ((0 + k) / 8) 0 (omega arith)))
+          ∙ sym (story-aligned o t (stateIn m) (e .0) (e .1))
+          ∙ f .stands;
+    }
+
+-- ---- the theorem
+
+pub round-trip : RoundTrip
+unfolding flushed
+round-trip o s es short fit room =
+    let fresh : Writer = W.newOf (length s) .writer in
+    let q : Written = writeAll o s fresh es in
+    let n₀ : bitsWritten fresh ≡ 0 = new-written (length s) in
+    let enough : bitsWritten fresh + size es ≤ 8 * length s = omega arith in
+    let g : Went o s fresh es q = all-written o s fresh es (new-belongs (length s) short) fit enough in
+    let h : Belongs (length (q .out)) (stateIn (q .writer)) = subst (λ (k : ℕ). Belongs k (stateIn (q .writer))) (sym (g .same-length)) (g .belongs) in
+    let n : bitsWritten (q .writer) ≡ size es = g .written ∙ ap (λ (k : ℕ). k + size es) n₀ ∙ zero-add (size es) in
+    let x : story o (q .out) (stateIn (q .writer)) ≡ pack o es =
+    g .stands ∙ ap₂ (λ (i j : ℕ). join o i (size es) j (pack o es)) n₀ (new-story o s (length s)) ∙ none-join o (size es) (pack o es) in
+    let pad : ℕ = padding (q .writer) in
+    let b : List ℕ = bytes o s es in
+    let a : Alone o (size es) pad (pack o es) b =
+    subst (λ (k : ℕ). Alone o k pad (pack o es) b) n (subst (λ (k : ℕ). Alone o (bitsWritten (q .writer)) pad k b) x (alone o (q .out) (q .writer) h)) in
+    let came : Came o b pad es (back o s es) =
+    all-read o b (R.newOf b .cursor) pad es (fresh-belongs b (a .short) o) fit (fresh-left b ∙ a .whole)
+    (ap (λ (k : ℕ). field o b k (size es + pad)) (fresh-place b) ∙ a .holds) in
+    record {
+      new-writer = new-done (length s) short;
+      written =
+          ap₂ (λ (k : ℕ) (ks : List ℕ). k ∷ ks) (flush-stored o (q .out) (q .writer) (belongs-refusal (length (q .out)) (stateIn (q .writer)) h) .accepted) (g .accepted);
+      new-cursor = fresh-done b (a .short);
+      read = came .accepted;
+      values = came .values;
+      few = omega (arith, came .left);
+      zeros = ap (field o b (place (back o s es .cursor))) (came .left) ∙ came .zeros;
+    }

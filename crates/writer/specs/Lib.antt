@@ -1,0 +1,5 @@
+pub mod Writer
+pub mod Answers
+pub mod AnswerLaws
+pub mod CastLaws
+pub mod WriteLaws

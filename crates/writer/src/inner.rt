@@ -1,0 +1,118 @@
+// A writer taken apart and put together, and the refusals and the padding behind its methods.
+use crate::Writer;
+use bits::Order;
+use bits::refusals;
+use packing::State;
+ghost use mathlib.Core.Path.{_≡_};
+ghost use Prim.Native.Nat.{_≤_};
+ghost use lib.ListN.{length};
+ghost use Rattle.packing.specs.Packing.{put, putOut, Belongs};
+ghost use Rattle.writer.specs.Writer.{stateIn, writerWith, oversized, roomRefusal, writeRefusal, signedRefusal, bytesRefusal, padding};
+
+// The state of a writer.
+pub fn state_in(w: Writer) -> State
+    ensures { λ r. ⌜ r ≡ stateIn w ⌝ }
+{
+    State {
+        written: w.written,
+        held: w.held,
+        number: w.number,
+    }
+}
+
+// The writer with a state.
+pub fn writer_with(state: State) -> Writer
+    ensures { λ r. ⌜ r ≡ writerWith state ⌝ }
+{
+    Writer {
+        written: state.written,
+        held: state.held,
+        number: state.number,
+    }
+}
+
+// Whether a value is at or above 2^n, n from 1 to 63.
+fn too_large(value: u64, n: u32) -> bool
+    requires { ⌜ n ≤ 64 ⌝ }
+    ensures { λ r. ⌜ r ≡ oversized n value ⌝ }
+{
+    if n == 0 {
+        return false;
+    }
+    if n == 64 {
+        return false;
+    }
+    1 << n <= value
+}
+
+// 8 where n bits more do not fit the output.
+pub fn room_refusal(len: usize, w: Writer, n: usize) -> u32
+    requires { ⌜ Belongs len (stateIn w) × (n ≤ 134217728) ⌝ }
+    ensures { λ r. ⌜ r ≡ roomRefusal len w n ⌝ }
+{
+    if 8 * len < 8 * w.written + w.held as usize + n {
+        refusals::NO_ROOM
+    } else {
+        refusals::DONE
+    }
+}
+
+// The refusal number of an unsigned write.
+pub fn write_refusal(len: usize, w: Writer, bits: u32, value: u64) -> u32
+    ensures { λ r. ⌜ r ≡ writeRefusal len w bits value ⌝ }
+{
+    let refusal = packing::inner::refusal(len, state_in(w));
+    if refusal != refusals::DONE {
+        return refusal;
+    }
+    if 64 < bits {
+        return refusals::TOO_WIDE;
+    }
+    if too_large(value, bits) {
+        return refusals::TOO_LARGE;
+    }
+    room_refusal(len, w, bits as usize)
+}
+
+// The refusal number of a signed write, which takes every number.
+pub fn signed_refusal(len: usize, w: Writer, bits: u32, value: i64) -> u32
+    ensures { λ r. ⌜ r ≡ signedRefusal len w bits value ⌝ }
+{
+    let refusal = packing::inner::refusal(len, state_in(w));
+    if refusal != refusals::DONE {
+        return refusal;
+    }
+    if 64 < bits {
+        return refusals::TOO_WIDE;
+    }
+    room_refusal(len, w, bits as usize)
+}
+
+// The refusal number of a write of n bytes.
+pub fn bytes_refusal(len: usize, w: Writer, n: usize) -> u32
+    ensures { λ r. ⌜ r ≡ bytesRefusal len w n ⌝ }
+{
+    if refusals::LIMIT < n {
+        return refusals::TOO_LONG;
+    }
+    let refusal = packing::inner::refusal(len, state_in(w));
+    if refusal != refusals::DONE {
+        return refusal;
+    }
+    room_refusal(len, w, 8 * n)
+}
+
+// Zeros up to a byte. The second test is the Rust's, and always true after the first, since fewer than eight bits are held.
+pub fn flush(order: Order, out: &mut [u8], w: Writer) -> Writer
+    requires { ⌜ Belongs (length (now out)) (stateIn w) ⌝ }
+    ensures answer { λ r. ⌜ r ≡ writerWith (put order (stateIn w) (padding w) 0) ⌝ }
+    ensures memory { λ _. ⌜ now (out .exit) ≡ putOut order (now (out .entry)) (stateIn w) (padding w) 0 ⌝ }
+{
+    if 0 < w.held {
+        let remaining = 8 - w.held % 8;
+        if remaining != 8 {
+            return writer_with(packing::inner::put_bits(order, out, state_in(w), remaining, 0));
+        }
+    }
+    w
+}
