@@ -1,0 +1,5 @@
+pub mod Digits
+pub mod Reading
+pub mod RunLaws
+pub mod PartLaws
+pub mod PlaceLaws

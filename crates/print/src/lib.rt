@@ -1,0 +1,2 @@
+// Numbers spelled in digits, put at a place of an output.
+pub mod inner;
