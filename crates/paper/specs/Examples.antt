@@ -20,6 +20,10 @@ use Rattle.reader.specs.declared.Partial.{Partial}
 use Rattle.reader.specs.Answers.{newOf, readRefusal, readOf, remainderOf, partialOf}
 use Rattle.packing.specs.Packing as P
 use Rattle.packing.specs.Packing.{bytesOf, put, putOut}
+use Rattle.layout.specs.declared.Compiled.{Compiled}
+use Rattle.layout.specs.Layout.{itemsOf, goodItems, isLayout}
+use Rattle.layout.specs.Plan.{takes, refilled}
+use Rattle.layout.specs.Answers.{compileRefusal, compileOf, compileOut}
 use Rattle.writer.specs.declared.Writer.{Writer}
 use Rattle.writer.specs.Writer.{oversized, writeRefusal}
 use Rattle.writer.specs.Answers as W
@@ -44,6 +48,8 @@ pub data Asked : Type 0 where
   writes : Order → List ℕ → List Field → Asked
   -- after a read of some bits from a fresh cursor: the partial bits, their value, and the bytes of the remainder
   remains : Order → List ℕ → ℕ → Asked
+  -- the plan of a layout compiled into an output: the refusal number, the plan's length, and the output
+  compiles : List ℕ → List ℕ → Asked
 
 -- reads of these widths from a cursor on
 unfoldable pub readings : Order → List ℕ → Cursor → List ℕ → List ℤ
@@ -66,6 +72,8 @@ told (remains o s n) =
     let c : Cursor = readOf o s (newOf s .cursor) n .cursor in
     let p : Partial = partialOf o s c in
     (pos (p .«partial_bits») ∷ pos (p .«partial_byte») ∷ map pos (remainderOf o s c))
+told (compiles s out) =
+    let r : Compiled = compileOf s (length out) in (pos (r .refusal) ∷ pos (r .length) ∷ map pos (compileOut s out))
 
 -- an example and its expected answer
 pub record Example : Type 0 where
@@ -102,9 +110,17 @@ table =
     -- P8
     ∷ (remains Big (0x5a ∷ 0xff ∷ []) 3 gives (pos 5 ∷ pos 0x1a ∷ pos 0xff ∷ []))
     ∷ (remains Little (0x5a ∷ 0xff ∷ []) 3 gives (pos 5 ∷ pos 0x0b ∷ pos 0xff ∷ []))
+    -- P9: the output's last byte is untouched
+    ∷ (compiles (0 ∷ 20 ∷ 0 ∷ 38 ∷ 0 ∷ 1 ∷ 1 ∷ 16 ∷ 0 ∷ 10 ∷ 0 ∷ 4 ∷ []) (7 ∷ 7 ∷ 7 ∷ 7 ∷ 7 ∷ 7 ∷ 7 ∷ 7 ∷ 7 ∷ 7 ∷ [])
+    gives (pos 0 ∷ pos 9 ∷ pos 0x00 ∷ pos 0x54 ∷ pos 0x00 ∷ pos 0x66 ∷ pos 0x41 ∷ pos 0x90 ∷ pos 0x00 ∷ pos 0x4a ∷ pos 0x44 ∷ pos 7 ∷ []))
+    -- P10
+    ∷ (compiles (0 ∷ 56 ∷ []) (7 ∷ 7 ∷ []) gives (pos 0 ∷ pos 2 ∷ pos 0x00 ∷ pos 0x78 ∷ []))
+    ∷ (compiles (1 ∷ 57 ∷ []) (7 ∷ 7 ∷ 7 ∷ 7 ∷ []) gives (pos 0 ∷ pos 4 ∷ pos 0x00 ∷ pos 0xf8 ∷ pos 0x00 ∷ pos 0x81 ∷ []))
+    ∷ (compiles (0 ∷ 64 ∷ []) (7 ∷ 7 ∷ 7 ∷ 7 ∷ []) gives (pos 0 ∷ pos 4 ∷ pos 0x00 ∷ pos 0xf8 ∷ pos 0x00 ∷ pos 0x48 ∷ []))
+    ∷ (compiles [] (7 ∷ []) gives (pos 0 ∷ pos 0 ∷ pos 7 ∷ []))
     ∷ []
 
 -- every example of the table is answered as expected
 pub table-holds : map (λ (e : Example). told (e .asked)) table ≡ map (λ (e : Example). e .expected) table
-unfolding told readings writings oversized writeRefusal writeOf writeOut flushOf flushOut W.newOf P.belongs P.stateRefusal bytesOf put putOut first rest extendOf signed newOf readRefusal readOf remainderOf partialOf orElse stateRefusal belongs registerOf afterRead position bit join field held
+unfolding told readings writings itemsOf goodItems isLayout takes refilled compileRefusal compileOf compileOut oversized writeRefusal writeOf writeOut flushOf flushOut W.newOf P.belongs P.stateRefusal bytesOf put putOut first rest extendOf signed newOf readRefusal readOf remainderOf partialOf orElse stateRefusal belongs registerOf afterRead position bit join field held
 table-holds = refl

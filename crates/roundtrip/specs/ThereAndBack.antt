@@ -22,11 +22,17 @@ use Rattle.writer.specs.Writer.{stateIn, bitsWritten, writerRefusal, padding}
 use Rattle.writer.specs.Answers as W
 use Rattle.writer.specs.Answers.{flushOf, flushOut}
 use Rattle.writer.specs.WriteLaws.{new-done, new-belongs, new-written, new-story, Stored, flush-stored, flush-whole}
-use Rattle.roundtrip.specs.RoundTrip.{size, Written, writeAll, flushed, bytes, back, RoundTrip}
+use Rattle.roundtrip.specs.RoundTrip.{Entry, Fit, size, Written, writeAll, flushed, sent, bytes, back, RoundTrip}
 use Rattle.roundtrip.specs.WayOut.{pack, Went, all-written}
 use Rattle.roundtrip.specs.WayBack.{Came, all-read}
 
 -- ---- the written bytes alone
+
+-- they are bytes of the output
+flush-within : (o : Order) (s : List ℕ) (w : Writer) → Belongs (length s) (stateIn w) → flushOf o (length s) w .writer .written ≤ length (flushOut o s w)
+flush-within o s w h =
+    let f : Stored o s w (padding w) 0 (flushOut o s w) (flushOf o (length s) w) = flush-stored o s w (belongs-refusal (length s) (stateIn w) h) in
+    omega (arith, f .belongs .within, f .same-length)
 
 -- after a flush, they are all that was written, and the padding
 record Alone (o : Order) (n pad x : ℕ) (b : List ℕ) : Type 0 where
@@ -44,8 +50,7 @@ alone o s w h =
     let f : Stored o s w (padding w) 0 t (flushOf o (length s) w) = flush-stored o s w z in
     let e : (m .held ≡ 0) × (m .number ≡ 0) = flush-whole o s w z in
     let all : 8 * m .written ≡ bitsWritten w + padding w = omega (arith, f .written, e .0) in
-    let most : m .written ≤ length t = omega (arith, f .belongs .within, f .same-length) in
-    let l : length b ≡ m .written = length-take-le (m .written) t most in
+    let l : length b ≡ m .written = length-take-le (m .written) t (flush-within o s w h) in
     record {
       short = omega (arith, f .same-length, f .belongs .short);
       whole = omega arith;
@@ -58,15 +63,30 @@ alone o s w h =
 
 -- ---- the theorem
 
+-- all entries by a fresh writer, before the flush
+abbrev unflushed : Order → List ℕ → List Entry → Written
+unflushed o s es = writeAll o s (W.newOf (length s) .writer) es
+
+module _ (o : Order) (s : List ℕ) (es : List Entry) (short : length s ≤ limit) (fit : Fit es) (room : size es ≤ 8 * length s) where
+  went : Went o s (W.newOf (length s) .writer) es (unflushed o s es)
+  went = all-written o s (W.newOf (length s) .writer) es (new-belongs (length s) short) fit (omega (arith, new-written (length s)))
+
+  -- the writer still belongs to the output
+  belongs : Belongs (length (unflushed o s es .out)) (stateIn (unflushed o s es .writer))
+  belongs = subst (λ (k : ℕ). Belongs k (stateIn (unflushed o s es .writer))) (sym (went .same-length)) (went .belongs)
+
+  pub sent-within : sent o s es .writer .written ≤ length (sent o s es .out)
+  unfolding flushed
+  sent-within = flush-within o (unflushed o s es .out) (unflushed o s es .writer) belongs
+
 pub round-trip : RoundTrip
 unfolding flushed
 round-trip o s es short fit room =
     let fresh : Writer = W.newOf (length s) .writer in
-    let q : Written = writeAll o s fresh es in
+    let q : Written = unflushed o s es in
     let n₀ : bitsWritten fresh ≡ 0 = new-written (length s) in
-    let enough : bitsWritten fresh + size es ≤ 8 * length s = omega arith in
-    let g : Went o s fresh es q = all-written o s fresh es (new-belongs (length s) short) fit enough in
-    let h : Belongs (length (q .out)) (stateIn (q .writer)) = subst (λ (k : ℕ). Belongs k (stateIn (q .writer))) (sym (g .same-length)) (g .belongs) in
+    let g : Went o s fresh es q = went o s es short fit room in
+    let h : Belongs (length (q .out)) (stateIn (q .writer)) = belongs o s es short fit room in
     let n : bitsWritten (q .writer) ≡ size es = g .written ∙ ap (λ (k : ℕ). k + size es) n₀ ∙ zero-add (size es) in
     let x : story o (q .out) (stateIn (q .writer)) ≡ pack o es =
     g .stands ∙ ap₂ (λ (i j : ℕ). join o i (size es) j (pack o es)) n₀ (new-story o s (length s)) ∙ none-join o (size es) (pack o es) in

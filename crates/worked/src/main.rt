@@ -9,6 +9,7 @@ fn main() {
         wide.refusal as u64,
     );
     bytes_after_a_bit();
+    layouts();
 }
 
 // 17 bytes, one bit read: 16 bytes can be had, 17 are refused with 9. Width 65 is refused with 3.
@@ -28,6 +29,26 @@ fn bytes_after_a_bit() {
     told(
         b"17 bytes after one bit of 17 bytes: ",
         short.refusal as u64,
+    );
+}
+
+// 64 fields compile, 65 are refused with 5; so is a width of 65 in a layout.
+fn layouts() {
+    let mut out = [0u8; 256];
+    let most = [0u8; 128];
+    told(
+        b"a layout of 64 fields: ",
+        layout::compile(&most, &mut out).refusal as u64,
+    );
+    let many = [0u8; 130];
+    told(
+        b"a layout of 65 fields: ",
+        layout::compile(&many, &mut out).refusal as u64,
+    );
+    let wide = [0u8, 65u8];
+    told(
+        b"a layout with a width of 65: ",
+        layout::compile(&wide, &mut out).refusal as u64,
     );
 }
 

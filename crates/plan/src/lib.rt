@@ -1,0 +1,36 @@
+// Running plans: all fields of a layout in one call.
+use bits::Order;
+use bits::refusals;
+use reader::Cursor;
+use reader::Moved;
+ghost use mathlib.Core.Path.{_≡_};
+ghost use lib.ListN.{length};
+ghost use Rattle.plan.specs.Run.{runOf, runOut};
+
+pub mod inner;
+
+// Reads every field of the plan's layout from the cursor on: one 64-bit pattern a field into the results, whose rest is untouched.
+// The cursor behind the last field holds fewer than eight bits. Refusals 1, 2, 6, 8 and 9, before the first result.
+pub fn run(cursor: Cursor, order: Order, src: &[u8], plan: &[u8], results: &mut [u64]) -> Moved
+    ensures answer { λ r. ⌜ r ≡ runOf order (now (src .entry)) cursor (now (plan .entry)) (length (now (results .entry))) ⌝ }
+    ensures memory { λ _. ⌜ now (results .exit) ≡ runOut order (now (src .entry)) cursor (now (plan .entry)) (now (results .entry)) ⌝ }
+{
+    let refusal = inner::run_refusal(cursor, order, src, plan, results.len());
+    if refusal != refusals::DONE {
+        return Moved {
+            refusal: refusal,
+            cursor: cursor,
+        };
+    }
+    let end = inner::run_plan(
+        order,
+        src,
+        plan,
+        8 * cursor.offset - cursor.lookahead as usize,
+        results,
+    );
+    Moved {
+        refusal: refusals::DONE,
+        cursor: reader::inner::cursor_at(order, src, end),
+    }
+}
