@@ -1,0 +1,287 @@
+// Records and strips where the tests are made, for proved callers.
+use bits::Order;
+use bits::refusals;
+use packing::State;
+use reader::Cursor;
+use record::Record;
+use writer::Writer;
+ghost use mathlib.Core.Path.{_≡_};
+ghost use mathlib.Core.Bool.{true};
+ghost use mathlib.Core.List.{[], _∷_};
+ghost use Prim.Native.Nat.{_+_, _*_, _%_, _^_, _<_, _≤_};
+ghost use lib.ListN.{length};
+ghost use lib.Seq.{sets};
+ghost use lib.Dec.{ltb};
+ghost use Rattle.bits.specs.Refusals.{limit};
+ghost use Rattle.bits.specs.Signed.{signed, pattern};
+ghost use Rattle.packing.specs.Packing.{Belongs, bitsWritten, put, putOut};
+ghost use Rattle.record.specs.Record.{fits, recordBits};
+ghost use Rattle.strip.specs.Bits.{bitsOf, recordAt};
+ghost use Rattle.strip.specs.Strip.{numbersOf, recordsIn, allFit, allNumbers, stripLength, recordsFrom, tailGood as tailGood·of};
+ghost use Rattle.strip.specs.Answers.{packRefusal, readRefusal, stripRefusal, stripOut, listRefusal};
+
+// ---- one record
+
+// The refusal number of packing a record.
+pub fn pack_refusal(len: usize, w: Writer, found: Record) -> u32
+    ensures { λ r. ⌜ r ≡ packRefusal len w found ⌝ }
+{
+    let refusal = packing::inner::refusal(len, writer::inner::state_in(w));
+    if refusal != refusals::DONE {
+        return refusal;
+    }
+    if record::inner::fits(found) {
+        return writer::inner::room_refusal(len, w, 89);
+    }
+    refusals::TOO_LARGE
+}
+
+// The six numbers as one of 89 bits behind those written: 56 bits, then 33.
+fn put_six(
+    out: &mut [u8],
+    c: State,
+    star: u64,
+    date: u64,
+    limit: u64,
+    magnitude: u64,
+    error: u64,
+    filter: u64,
+) -> State
+    requires { ⌜ Belongs (length (now out)) c × (bitsWritten c + recordBits ≤ 8 * length (now out)) × (star < 2 ^ 20) × (date < 2 ^ 38) × (limit < 2) × (magnitude < 2 ^ 16) × (error < 2 ^ 10) × (filter < 2 ^ 4) ⌝ }
+    ensures answer { λ r. ⌜ r ≡ put Order.Big c recordBits (bitsOf (record { star = star; date = date; limit = limit; magnitude = signed 16 magnitude; error = error; filter = filter })) ⌝ }
+    ensures memory { λ _. ⌜ now (out .exit) ≡ putOut Order.Big (now (out .entry)) c recordBits (bitsOf (record { star = star; date = date; limit = limit; magnitude = signed 16 magnitude; error = error; filter = filter })) ⌝ }
+{
+    let high = star * 0x10_0000_0000 + date / 4;
+    let low = date % 4 * 0x8000_0000
+        + limit * 0x4000_0000
+        + magnitude * 0x4000
+        + error * 16
+        + filter;
+    let middle = packing::inner::put_short(Order::Big, out, c, 56, high);
+    packing::inner::put_short(Order::Big, out, middle, 33, low)
+}
+
+// The 16 bits of a magnitude.
+fn magnitude_bits(magnitude: i16) -> u64
+    ensures { λ r. ⌜ r ≡ pattern 16 magnitude ⌝ }
+{
+    sign::inner::bits_of_signed(magnitude as i64) % 0x1_0000
+}
+
+// A record behind what was written.
+pub fn put_record(out: &mut [u8], c: State, found: Record) -> State
+    requires { ⌜ Belongs (length (now out)) c × (bitsWritten c + recordBits ≤ 8 * length (now out)) × (fits found ≡ true) ⌝ }
+    ensures answer { λ r. ⌜ r ≡ put Order.Big c recordBits (bitsOf found) ⌝ }
+    ensures memory { λ _. ⌜ now (out .exit) ≡ putOut Order.Big (now (out .entry)) c recordBits (bitsOf found) ⌝ }
+{
+    put_six(
+        out,
+        c,
+        found.star as u64,
+        found.date,
+        found.limit as u64,
+        magnitude_bits(found.magnitude),
+        found.error as u64,
+        found.filter as u64,
+    )
+}
+
+// The refusal number of reading a record.
+pub fn read_refusal(src: &[u8], c: Cursor) -> u32
+    ensures { λ r. ⌜ r ≡ readRefusal (now (src .entry)) c ⌝ }
+{
+    let refusal = lookahead::inner::refusal(Order::Big, src, reader::inner::state_in(c));
+    if refusal != refusals::DONE {
+        return refusal;
+    }
+    if reader::inner::bits_left(src, c) < 89 {
+        return refusals::TOO_FEW;
+    }
+    refusals::DONE
+}
+
+// The record at a place: by windows of 64 bits, the last four fields out of one.
+pub fn record_at(src: &[u8], place: usize) -> Record
+    requires { ⌜ (place + recordBits ≤ 8 * length (now src)) × (length (now src) ≤ limit) ⌝ }
+    ensures { λ r. ⌜ r ≡ recordAt (now (src .entry)) place ⌝ }
+{
+    let star = words::inner::short_field(Order::Big, src, place, 20);
+    let date = words::inner::short_field(Order::Big, src, place + 20, 38);
+    let rest = words::inner::short_field(Order::Big, src, place + 58, 31);
+    Record {
+        star: star as u32,
+        date: date,
+        limit: (rest / 0x4000_0000) as u8,
+        magnitude: sign::inner::extend(rest / 0x4000 % 0x1_0000, 16) as i16,
+        error: (rest / 16 % 0x400) as u16,
+        filter: (rest % 16) as u8,
+    }
+}
+
+// ---- whole strips
+
+// Whether six numbers fit their fields, the magnitude's two's complement its 16 bits.
+fn six_fit(star: u64, date: u64, limit: u64, magnitude: u64, error: u64, filter: u64) -> bool
+    ensures { λ r. ⌜ r ≡ allFit (recordsIn 1 (star ∷ date ∷ limit ∷ magnitude ∷ error ∷ filter ∷ [])) ⌝ }
+{
+    if star < 0x10_0000 {
+        if date < 0x40_0000_0000 {
+            if limit < 2 {
+                if error < 0x400 {
+                    if filter < 16 {
+                        if magnitude < 0x8000 {
+                            return true;
+                        }
+                        return 0xffff_ffff_ffff_8000 <= magnitude;
+                    }
+                }
+            }
+        }
+    }
+    false
+}
+
+// Whether the first n records of a list fit.
+fn all_fit(numbers: &[u64], n: usize) -> bool
+    requires { ⌜ 6 * n ≤ length (now numbers) ⌝ }
+    ensures { λ r. ⌜ r ≡ allFit (recordsIn n (now (numbers .entry))) ⌝ }
+{
+    let mut i = 0;
+    let mut at = 0;
+    while i < n {
+        if six_fit(
+            numbers[at],
+            numbers[at + 1],
+            numbers[at + 2],
+            numbers[at + 3],
+            numbers[at + 4],
+            numbers[at + 5],
+        ) {
+            i += 1;
+            at += 6;
+        } else {
+            return false;
+        }
+    }
+    true
+}
+
+// The refusal number of packing n records.
+pub fn strip_refusal(numbers: &[u64], n: usize, len: usize) -> u32
+    ensures { λ r. ⌜ r ≡ stripRefusal (now (numbers .entry)) n len ⌝ }
+{
+    if refusals::LIMIT < len {
+        return refusals::TOO_LONG;
+    }
+    let mut there = numbers.len() / 6;
+    if n < there {
+        there = n;
+    }
+    if all_fit(numbers, there) {
+        if there < n {
+            return refusals::NO_ROOM;
+        }
+        if 8 * len / 89 < n {
+            return refusals::NO_ROOM;
+        }
+        return refusals::DONE;
+    }
+    refusals::TOO_LARGE
+}
+
+// Packs n records and flushes; the answer is the strip's length.
+pub fn put_strip(numbers: &[u64], n: usize, out: &mut [u8]) -> usize
+    requires { ⌜ (6 * n ≤ length (now numbers)) × (stripLength n ≤ length (now out)) × (length (now out) ≤ limit) × (allFit (recordsIn n (now numbers)) ≡ true) ⌝ }
+    ensures answer { λ r. ⌜ r ≡ stripLength n ⌝ }
+    ensures memory { λ _. ⌜ now (out .exit) ≡ stripOut (recordsIn n (now (numbers .entry))) (now (out .entry)) ⌝ }
+{
+    let mut c = State {
+        written: 0,
+        held: 0,
+        number: 0,
+    };
+    let mut i = 0;
+    let mut at = 0;
+    while i < n {
+        c = put_six(
+            out,
+            c,
+            numbers[at],
+            numbers[at + 1],
+            numbers[at + 2],
+            numbers[at + 3] % 0x1_0000,
+            numbers[at + 4],
+            numbers[at + 5],
+        );
+        i += 1;
+        at += 6;
+    }
+    let last = writer::inner::flush(Order::Big, out, writer::inner::writer_with(c));
+    last.written
+}
+
+// The refusal number of reading a strip into a list of `room` numbers.
+pub fn list_refusal(src: &[u8], room: usize) -> u32
+    ensures { λ r. ⌜ r ≡ listRefusal (now (src .entry)) room ⌝ }
+{
+    if refusals::LIMIT < src.len() {
+        return refusals::TOO_LONG;
+    }
+    if room < 6 * (8 * src.len() / 89) {
+        return refusals::NO_ROOM;
+    }
+    refusals::DONE
+}
+
+// A magnitude's 64 bits in two's complement, of its 16.
+fn widened(magnitude: u64) -> u64
+    requires { ⌜ magnitude < 2 ^ 16 ⌝ }
+    ensures { λ r. ⌜ r ≡ pattern 64 (signed 16 magnitude) ⌝ }
+{
+    if magnitude < 0x8000 {
+        return magnitude;
+    }
+    magnitude + 0xffff_ffff_ffff_0000
+}
+
+// Stores the six numbers of the record at a place.
+fn put_numbers_at(src: &[u8], place: usize, numbers: &mut [u64], at: usize)
+    requires { ⌜ (place + recordBits ≤ 8 * length (now src)) × (length (now src) ≤ limit) × (at + 6 ≤ length (now numbers)) ⌝ }
+    ensures { λ _. ⌜ now (numbers .exit) ≡ sets (now (numbers .entry)) at (numbersOf (recordAt (now (src .entry)) place)) ⌝ }
+{
+    let rest = words::inner::short_field(Order::Big, src, place + 58, 31);
+    numbers[at] = words::inner::short_field(Order::Big, src, place, 20);
+    numbers[at + 1] = words::inner::short_field(Order::Big, src, place + 20, 38);
+    numbers[at + 2] = rest / 0x4000_0000;
+    numbers[at + 3] = widened(rest / 0x4000 % 0x1_0000);
+    numbers[at + 4] = rest / 16 % 0x400;
+    numbers[at + 5] = rest % 16;
+}
+
+// Stores the numbers of the first records of a strip.
+pub fn put_numbers(src: &[u8], count: usize, numbers: &mut [u64])
+    requires { ⌜ (recordBits * count ≤ 8 * length (now src)) × (length (now src) ≤ limit) × (6 * count ≤ length (now numbers)) ⌝ }
+    ensures { λ _. ⌜ now (numbers .exit) ≡ sets (now (numbers .entry)) 0 (allNumbers (recordsFrom (now (src .entry)) 0 count)) ⌝ }
+{
+    let mut i = 0;
+    let mut place = 0;
+    let mut at = 0;
+    while i < count {
+        put_numbers_at(src, place, numbers, at);
+        i += 1;
+        place += 89;
+        at += 6;
+    }
+}
+
+// Whether the bits behind the last record are under eight, and all zero.
+pub fn tail_good(src: &[u8]) -> bool
+    requires { ⌜ length (now src) ≤ limit ⌝ }
+    ensures { λ r. ⌜ r ≡ tailGood·of (now (src .entry)) ⌝ }
+{
+    let bits = 8 * src.len() % 89;
+    if bits < 8 {
+        return words::inner::short_field(Order::Big, src, 8 * src.len() - bits, bits as u32) == 0;
+    }
+    false
+}
