@@ -1,0 +1,113 @@
+// Typed values: a value whose case is its kind, read and written in either order.
+use bits::Order;
+use bits::refusals;
+use floats::Double;
+use floats::Single;
+use reader::Cursor;
+use writer::Writer;
+use writer::Wrote;
+ghost use mathlib.Core.Path.{_≡_};
+ghost use lib.ListN.{length};
+ghost use Rattle.typed.specs.Typed.{typedOf, bitsOf};
+ghost use Rattle.typed.specs.Answers.{answered, readOf, writeOf, writeOut};
+
+// The four kinds.
+pub enum Kind {
+    Unsigned,
+    Signed,
+    Single,
+    Double,
+}
+
+// A value of a kind. A single or a double keeps every bit pattern, a NaN's too.
+pub enum Typed {
+    Unsigned(u64),
+    Signed(i64),
+    Single(Single),
+    Double(Double),
+}
+
+// The answer of a typed read: the value and the cursor that goes on, or a refusal number and the cursor that came.
+pub enum TypedRead {
+    Done(Typed, Cursor),
+    Refused(u32, Cursor),
+}
+
+// The value of a kind that 64 bits make: themselves, their two's complement, their low 32 as a single, or all as a double.
+pub fn typed_of_bits(kind: Kind, bits: u64) -> Typed
+    ensures { λ r. ⌜ r ≡ typedOf kind bits ⌝ }
+{
+    match kind {
+        Kind::Unsigned => Typed::Unsigned(bits),
+        Kind::Signed => Typed::Signed(sign::inner::signed_of_bits(bits)),
+        Kind::Single => Typed::Single(floats::single_of_bits((bits % 0x1_0000_0000) as u32)),
+        Kind::Double => Typed::Double(floats::double_of_bits(bits)),
+    }
+}
+
+// The bits of a typed value, a single's in the low 32.
+pub fn bits_of_typed(value: Typed) -> u64
+    ensures { λ r. ⌜ r ≡ bitsOf value ⌝ }
+{
+    match value {
+        Typed::Unsigned(n) => n,
+        Typed::Signed(z) => sign::inner::bits_of_signed(z),
+        Typed::Single(x) => floats::bits_of_single(x) as u64,
+        Typed::Double(x) => floats::bits_of_double(x),
+    }
+}
+
+// Reads a value of a kind; the width is that of an unsigned or signed one, and else not looked at. Refusals 1, 2, 3 and 9.
+pub fn read_typed(cursor: Cursor, order: Order, src: &[u8], kind: Kind, width: u32) -> TypedRead
+    ensures { λ r. ⌜ r ≡ readOf order (now (src .entry)) cursor kind width ⌝ }
+{
+    match kind {
+        Kind::Unsigned => {
+            let read = cursor.read_bits(order, src, width);
+            let next = read.cursor;
+            answer(read.refusal, Typed::Unsigned(read.value), next)
+        }
+        Kind::Signed => {
+            let read = cursor.read_signed_bits(order, src, width);
+            let next = read.cursor;
+            answer(read.refusal, Typed::Signed(read.value), next)
+        }
+        Kind::Single => {
+            let read = cursor.read_f32(order, src);
+            let next = read.cursor;
+            let value = read.value;
+            answer(read.refusal, Typed::Single(value), next)
+        }
+        Kind::Double => {
+            let read = cursor.read_f64(order, src);
+            let next = read.cursor;
+            let value = read.value;
+            answer(read.refusal, Typed::Double(value), next)
+        }
+    }
+}
+
+// A value and a cursor, or a refusal.
+fn answer(refusal: u32, value: Typed, cursor: Cursor) -> TypedRead
+    ensures { λ r. ⌜ r ≡ answered refusal value cursor ⌝ }
+{
+    if refusal == refusals::DONE {
+        TypedRead::Done(value, cursor)
+    } else {
+        TypedRead::Refused(refusal, cursor)
+    }
+}
+
+// Writes a typed value; its case is its kind, and the width is that of an unsigned or signed one, else not looked at. Refusals as for
+// the write beneath: 1, 2, 3, 4 and 8.
+pub fn write_typed(writer: Writer, order: Order, out: &mut [u8], value: Typed, width: u32) -> Wrote
+    ensures answer { λ r. ⌜ r ≡ writeOf order (length (now (out .entry))) writer value width ⌝ }
+    ensures memory { λ _. ⌜ now (out .exit) ≡ writeOut order (now (out .entry)) writer value width ⌝ }
+{
+    match value {
+        Typed::Unsigned(n) => writer.write_bits(order, out, width, n),
+        Typed::Signed(z) => writer.write_signed_bits(order, out, width, z),
+        Typed::Single(x) => writer.write_f32(order, out, x),
+        Typed::Double(x) => writer.write_f64(order, out, x),
+    }
+}

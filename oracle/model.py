@@ -1,0 +1,351 @@
+#!/usr/bin/env python3
+"""A model of the library, written from the rules of the format and of the refusals, bit by bit and without a register trick. It shares
+no code with the library. It answers scripts (docs/REPLAY.md) on every input, refusals included:
+
+    model.py answer < script        the answers
+    model.py refusals               the script of refusals: each number in each call where it can occur, on both sides of its line
+"""
+import random
+import sys
+
+LIMIT = 16_777_216
+
+
+def bit(little, s, k):
+    return s[k // 8] >> (k % 8 if little else 7 - k % 8) & 1
+
+
+def field(little, s, place, w):
+    v = 0
+    for i in range(w):
+        b = bit(little, s, place + i)
+        v = v + (b << i) if little else 2 * v + b
+    return v
+
+
+def signed(w, v):
+    return v - (1 << w) if w >= 1 and v >= 1 << (w - 1) else v
+
+
+def pattern(z):
+    return z % (1 << 64)
+
+
+# ---- cursors: (offset, lookahead, register)
+
+def register(little, s, offset, lookahead):
+    v = field(little, s, 8 * offset - lookahead, lookahead)
+    return v if little else v << (64 - lookahead)
+
+
+def belongs(little, s, c):
+    offset, lookahead, reg = c
+    return offset <= len(s) and lookahead <= 63 and lookahead <= 8 * offset and reg == register(little, s, offset, lookahead)
+
+
+def refill(n, c):
+    offset, r = c
+    more = min(n - offset, 7 - r // 8)
+    return offset + more, r + 8 * more
+
+
+def after_read(n, c, w):
+    offset, r = c
+    if w <= 56:
+        if w > r:
+            c = refill(n, c)
+        return c[0], c[1] - w
+    if w > r or n - offset < 8:
+        c = refill(n, c)
+    c = refill(n, (c[0], c[1] - 56))
+    return c[0], c[1] - (w - 56)
+
+
+def after_bytes(n, c, count):
+    """as the Rust does it: bytes out of the lookahead; a copy and a refill where it is empty then, else chunks of sixteen behind the
+    first byte, a refill, and the others one by one"""
+    offset, r = c
+    whole = min(r // 8, count)
+    r -= 8 * whole
+    left = count - whole
+    if left == 0:
+        return offset, r
+    if r == 0:
+        return refill(n, (offset + left, 0))
+    over = 1 + 16 * ((left - 1) // 16)
+    c = refill(n, (offset + over, r))
+    for _ in range(left - over):
+        c = after_read(n, c, 8)
+    return c
+
+
+class Machine:
+    def __init__(self):
+        self.little, self.src, self.out = True, b"", bytearray()
+        self.cursor, self.writer = (0, 0, 0), (0, 0, 0)
+
+    # the refusal of the slice and the cursor, or of the output and the writer
+    def of_cursor(self):
+        if len(self.src) > LIMIT:
+            return 1
+        return 0 if belongs(self.little, self.src, self.cursor) else 2
+
+    def of_writer(self):
+        written, held, number = self.writer
+        if len(self.out) > LIMIT:
+            return 1
+        return 0 if 8 * written + held <= 8 * len(self.out) and held <= 7 and number < 1 << held else 2
+
+    def place(self):
+        return 8 * self.cursor[0] - self.cursor[1]
+
+    def left(self):
+        return 8 * len(self.src) - self.place()
+
+    def go(self, counts):
+        self.cursor = (*counts, register(self.little, self.src, *counts))
+
+    def read(self, w):
+        e = self.of_cursor() or (3 if w > 64 else 0) or (9 if w > self.left() else 0)
+        if e:
+            return e, 0
+        v = field(self.little, self.src, self.place(), w)
+        self.go(after_read(len(self.src), self.cursor[:2], w))
+        return 0, v
+
+    def told(self, e, v):
+        return "%x %x %x %x" % (e, v, self.cursor[0], self.cursor[1])
+
+    def wrote(self, e):
+        return "%x %x %x" % (e, self.writer[0], self.writer[1])
+
+    # n bits v behind those written: the list of all bits, cut into bytes again
+    def put(self, bits):
+        written, held, number = self.writer
+        have = [number >> (i if self.little else held - 1 - i) & 1 for i in range(held)]
+        have += bits
+        while len(have) >= 8:
+            self.out[written] = sum(b << (i if self.little else 7 - i) for i, b in enumerate(have[:8]))
+            written, have = written + 1, have[8:]
+        number = sum(b << (i if self.little else len(have) - 1 - i) for i, b in enumerate(have))
+        self.writer = (written, len(have), number)
+
+    def bits_of(self, w, v):
+        return [v >> (i if self.little else w - 1 - i) & 1 for i in range(w)]
+
+    def room(self, n):
+        return 8 if 8 * self.writer[0] + self.writer[1] + n > 8 * len(self.out) else 0
+
+    def write(self, w, v):
+        e = self.of_writer() or (3 if w > 64 else 0) or (4 if 1 <= w <= 63 and v >= 1 << w else 0) or self.room(w)
+        if not e:
+            self.put(self.bits_of(w, v))
+        return self.wrote(e)
+
+    def write_signed(self, w, z):
+        e = self.of_writer() or (3 if w > 64 else 0) or self.room(w)
+        if not e:
+            self.put(self.bits_of(w, z % (1 << w)))
+        return self.wrote(e)
+
+    def answer(self, line):
+        letter, words = line[0], line[1:].strip(" ").split(" ")
+        if letter not in "LBSOCDnbsfqhpcrymkNwxFYuzoKe":
+            return None
+        number = lambda i: int(words[i], 16) if i < len(words) and words[i] else 0
+        a, b, c = number(0) if letter not in "SY" else 0, number(1), number(2)
+        narrow = lambda n: min(n, 0xFFFFFFFF)
+        if letter in "LB":
+            self.little = letter == "L"
+        elif letter == "S":
+            self.src = bytes.fromhex(words[0])
+        elif letter == "O":
+            self.out = bytearray([b % 256]) * a
+        elif letter == "C":
+            self.cursor = (a, b % (1 << 32), c)
+        elif letter == "D":
+            self.writer = (a, b % (1 << 32), c)
+        elif letter == "n":
+            self.cursor = (0, 0, 0)
+            return self.told(1 if len(self.src) > LIMIT else 0, 0)
+        elif letter == "b":
+            return self.told(*self.read(narrow(a)))
+        elif letter == "s":
+            e, v = self.read(narrow(a))
+            return self.told(e, 0 if e else pattern(signed(a, v)))
+        elif letter == "f":
+            w = [1, 8, 8, 16, 16, 32, 32, 32, 64, 64, 64][min(a, 10)]
+            e, v = self.read(w)
+            return self.told(e, pattern(signed(w, v)) if a in (2, 4, 6, 9) else v)
+        elif letter == "q":
+            e = self.of_cursor()
+            offset, r, _ = self.cursor
+            if e:
+                return self.told(e, 0)
+            v = [len(self.src) - offset + r // 8, len(self.src) - offset, self.left(), self.left() == 0, r % 8 == 0, r][min(a, 5)]
+            return self.told(0, int(v))
+        elif letter == "h":
+            e = self.of_cursor()
+            return self.told(e, 0 if e else int(a <= self.left()))
+        elif letter in "pc":
+            a = narrow(a)
+            e = self.of_cursor() or (10 if a > self.cursor[1] else 0)
+            if e:
+                return self.told(e, 0)
+            v = field(self.little, self.src, self.place(), a) if letter == "p" else 0
+            if letter == "c":
+                self.go((self.cursor[0], self.cursor[1] - a))
+            return self.told(0, v)
+        elif letter == "r":
+            e = self.of_cursor()
+            if not e:
+                self.go(refill(len(self.src), self.cursor[:2]))
+            return self.told(e, 0)
+        elif letter == "y":
+            buf = b"\xee" * a
+            e = (1 if a > LIMIT else 0) or self.of_cursor()
+            e = e or (9 if a > len(self.src) - self.cursor[0] + self.cursor[1] // 8 else 0)
+            if not e:
+                buf = bytes(field(self.little, self.src, self.place() + 8 * i, 8) for i in range(a))
+                self.go(after_bytes(len(self.src), self.cursor[:2], a))
+            return self.told(e, 0 if e else a) + " " + buf.hex()
+        elif letter == "m":
+            e = self.of_cursor()
+            if e:
+                return self.told(e, 0) + " "
+            offset, r, _ = self.cursor
+            v = 16 * field(self.little, self.src, self.place(), r % 8) + r % 8
+            return self.told(0, v) + " " + self.src[offset - r // 8:].hex()
+        elif letter == "k":
+            return "%x %x %x" % self.cursor
+        elif letter == "N":
+            self.writer = (0, 0, 0)
+            return self.wrote(1 if len(self.out) > LIMIT else 0)
+        elif letter == "w":
+            return self.write(narrow(a), b)
+        elif letter == "x":
+            return self.write_signed(narrow(a), signed(64, b))
+        elif letter == "F":
+            w = [1, 8, 8, 16, 16, 32, 32, 32, 64, 64, 64][min(a, 10)]
+            return self.write(w, int(b == 1) if a == 0 else b % (1 << w))
+        elif letter == "Y":
+            data = bytes.fromhex(words[0])
+            e = (1 if len(data) > LIMIT else 0) or self.of_writer() or self.room(8 * len(data))
+            if not e:
+                for x in data:
+                    self.put(self.bits_of(8, x))
+            return self.wrote(e)
+        elif letter == "u":
+            e = self.of_writer()
+            return "%x %x" % (e, 0 if e else self.writer[1])
+        elif letter == "z":
+            e = self.of_writer()
+            if not e:
+                self.put([0] * ((8 - self.writer[1]) % 8))
+            return self.wrote(e)
+        elif letter == "o":
+            return "=" + self.out.hex()
+        elif letter == "K":
+            return "%x %x %x" % self.writer
+        elif letter == "e":
+            e = (3 if b > 64 else 0) or (4 if a >= 1 << b else 0)
+            return "%x %x" % (e, 0 if e else pattern(signed(b, a)))
+        return None
+
+
+def answers(script):
+    m = Machine()
+    for line in script.splitlines():
+        if line:
+            told = m.answer(line)
+            if told is not None:
+                yield told
+
+
+# ---- the script of refusals
+
+def reads():
+    """every call on the cursor that can refuse, with the arguments on both sides of its own line"""
+    for w in (0, 1, 56, 57, 64, 65, 0xFFFFFFFF):
+        yield "b %x" % w
+        yield "s %x" % w
+    for k in range(11):
+        yield "f %x" % k
+    for k in range(6):
+        yield "q %x" % k
+    for n in (0, 1, 8, 16, 17, 63, 64):
+        yield "p %x" % n
+        yield "c %x" % n
+        yield "h %x" % n
+        yield "y %x" % n
+    yield "r"
+    yield "m"
+
+
+def cursors(little, src, rng):
+    """legal cursors, and each way of not belonging"""
+    n = len(src)
+    for offset, r in ((0, 0), (1, 0), (1, 8), (n, 0), (n, min(63, 8 * n)), (n // 2, min(63, 8 * (n // 2)))):
+        if r <= 8 * offset and offset <= n:
+            good = register(little, src, offset, r)
+            yield offset, r, good
+            yield offset, r, good ^ 1 << rng.randrange(64)
+            yield offset, r, good ^ (1 << 63 if little else 1)
+    yield n + 1, 0, 0
+    yield 0, 1, 0
+    yield (n, 8 * n + 1, 0)
+    yield (n, 64, 0)
+    yield ((1 << 64) - 1, 0, 0)
+    yield (n, (1 << 32) - 1, 0)
+
+
+def refusals():
+    rng = random.Random(20261115)
+    for n in (0, 2, 17):
+        src = bytes(rng.randrange(256) for _ in range(n))
+        for little in (True, False):
+            yield "LB"[not little]
+            yield "S " + src.hex()
+            for c in cursors(little, src, rng):
+                for call in reads():
+                    yield "C %x %x %x" % c
+                    yield call
+                yield "C %x %x %x" % c
+                yield rng.choice(["b 41", "c 40", "y 64"])
+                yield "k"
+    # writers: each way of not belonging, each side of room, of widths and of values
+    for size in (0, 9):
+        for little in (True, False):
+            yield "LB"[not little]
+            for written, held, number in ((0, 0, 0), (0, 1, 1), (0, 7, 127), (size, 0, 0), (size, 1, 0), (size, 0, 1), (size + 1, 0, 0),
+                                          (0, 8, 0), (0, 3, 8), (0, 3, 7), ((1 << 61), 0, 0), ((1 << 64) - 1, 7, 0), (0, (1 << 32) - 1, 0),
+                                          (max(size, 1) - 1, 7, 1)):
+                start = ["O %x a5" % size, "D %x %x %x" % (written, held, number)]
+                free = max(0, 8 * size - 8 * written - held)
+                calls = ["N", "u", "z"] + ["F %x %x" % (k, rng.randrange(1 << 64)) for k in range(11)]
+                for w in sorted({0, 1, 63, 64, 65, min(64, free), min(65, free + 1)}):
+                    most = (1 << w) - 1 if w <= 64 else 0
+                    for v in sorted({most, most + 1 if w < 64 else most, (1 << 64) - 1}):
+                        calls.append("w %x %x" % (w, v))
+                    calls.append("x %x %x" % (w, rng.randrange(1 << 64)))
+                for k in sorted({0, free // 8, free // 8 + 1}):
+                    calls.append("Y " + bytes(rng.randrange(256) for _ in range(k)).hex())
+                for call in calls:
+                    yield from start
+                    yield call
+                    yield "o"
+                    yield "K"
+    for w in (0, 1, 2, 4, 63, 64, 65, 1000, (1 << 32) - 1):
+        for v in sorted({0, 1, 7, 8, 15, 16, (1 << min(w, 64)) - 1, min(1 << min(w, 64), (1 << 64) - 1), 1 << 63, (1 << 64) - 1}):
+            yield "e %x %x" % (v, w)
+
+
+if __name__ == "__main__":
+    if sys.argv[1:] == ["answer"]:
+        for told in answers(sys.stdin.read()):
+            print(told)
+    elif sys.argv[1:] == ["refusals"]:
+        for line in refusals():
+            print(line)
+    else:
+        sys.exit(__doc__)
