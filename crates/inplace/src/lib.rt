@@ -1,0 +1,36 @@
+// The manual calls of a caller's own cursor, which is changed where it stands. Each is the reader's call by value: a refused call
+// stores the cursor that came.
+use bits::Order;
+use reader::Cursor;
+use reader::Peeked;
+ghost use mathlib.Core.Path.{_≡_};
+ghost use Rattle.reader.specs.Answers.{peekOf, consumeOf, refillOf};
+ghost use Rattle.reader.specs.AnswerLaws.{moved};
+
+// The first bits of the lookahead, which stay. Refusals 1, 2 and 10.
+pub fn peek(cursor: &Cursor, order: Order, src: &[u8], count: u32) -> Peeked
+    ensures { λ r. ⌜ r ≡ peekOf order (now (src .entry)) (now (cursor .entry)) count ⌝ }
+{
+    let here = *cursor;
+    here.peek(order, src, count)
+}
+
+// Takes the first bits off the lookahead. The answer is the refusal number: 1, 2 or 10, else 0.
+pub fn consume(cursor: &mut Cursor, order: Order, src: &[u8], count: u32) -> u32
+    ensures { λ r. ⌜ moved r (now (cursor .exit)) ≡ consumeOf order (now (src .entry)) (now (cursor .entry)) count ⌝ }
+{
+    let here = *cursor;
+    let moved = here.consume(order, src, count);
+    *cursor = moved.cursor;
+    moved.refusal
+}
+
+// Fetches as many whole bytes as the slice and 63 bits allow. The answer is the refusal number: 1 or 2, else 0.
+pub fn refill_lookahead(cursor: &mut Cursor, order: Order, src: &[u8]) -> u32
+    ensures { λ r. ⌜ moved r (now (cursor .exit)) ≡ refillOf order (now (src .entry)) (now (cursor .entry)) ⌝ }
+{
+    let here = *cursor;
+    let moved = here.refill_lookahead(order, src);
+    *cursor = moved.cursor;
+    moved.refusal
+}

@@ -1,0 +1,51 @@
+// What is left of a slice behind a cursor, as one record: a partial byte, and the whole bytes after it.
+use bits::Order;
+use reader::Cursor;
+ghost use mathlib.Core.Path.{_≡_};
+ghost use Rattle.reader.specs.Answers.{remainderOf, partialOf};
+
+// The bits before the first whole unread byte, as a number and how many, and the slice from that byte on. It has no refusal number:
+// `partial` tells it, and all is 0 or empty where there is one.
+pub struct Remainder<'a> {
+    partial_byte: u8,
+    partial_bits: u8,
+    remaining_bytes: &'a [u8],
+}
+
+// The remainder of a cursor's slice.
+pub fn remainder_record<'a>(cursor: Cursor, order: Order, src: &'a [u8]) -> Remainder<'a>
+    ensures { λ r. ⌜ (r .«partial_byte» ≡ (partialOf order (now (src .entry)) cursor) .«partial_byte»)
+        × (r .«partial_bits» ≡ (partialOf order (now (src .entry)) cursor) .«partial_bits»)
+        × (now (r .«remaining_bytes») ≡ remainderOf order (now (src .entry)) cursor) ⌝ }
+{
+    let partial = cursor.partial(order, src);
+    let rest = cursor.remainder(order, src);
+    Remainder {
+        partial_byte: partial.partial_byte,
+        partial_bits: partial.partial_bits,
+        remaining_bytes: rest,
+    }
+}
+
+impl<'a> Remainder<'a> {
+    // The bits before the first whole byte, as a number.
+    pub fn partial_byte(self) -> u8
+        ensures { λ r. ⌜ r ≡ self .entry .«partial_byte» ⌝ }
+    {
+        self.partial_byte
+    }
+
+    // How many bits stand before the first whole byte.
+    pub fn partial_bits(self) -> u8
+        ensures { λ r. ⌜ r ≡ self .entry .«partial_bits» ⌝ }
+    {
+        self.partial_bits
+    }
+
+    // The slice from the first whole byte on.
+    pub fn data(self) -> &'a [u8]
+        ensures { λ r. ⌜ r ≡ self .entry .«remaining_bytes» ⌝ }
+    {
+        self.remaining_bytes
+    }
+}
