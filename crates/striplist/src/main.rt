@@ -1,0 +1,4 @@
+// A strip on standard input, as text on standard output.
+fn main() {
+    programs::list();
+}

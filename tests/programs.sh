@@ -1,0 +1,148 @@
+#!/bin/sh
+# striplist and strippack, and ./strip over them, on good, damaged, short and overlong inputs: whole outputs are compared with what the
+# rules of docs/FORMAT.md give, worked out by hand.
+set -u
+cd "$(dirname "$0")/.." || exit 2
+work=$(mktemp -d) || exit 2
+trap 'rm -rf "$work"' EXIT
+count=0
+fail() {
+    echo "programs: $1"
+    exit 1
+}
+
+# what a program writes on $work/in has to be $work/want
+same() { # PROGRAM NAME
+    tests/program "$1" <"$work/in" >"$work/out" 2>"$work/said" || fail "$1 ended badly: $2"
+    [ ! -s "$work/said" ] || fail "$1 told something on standard error: $2"
+    cmp -s "$work/out" "$work/want" || fail "$1 wrote something else than it should: $2"
+    count=$((count + 1))
+}
+header='star,date,limit,mag,err,filter'
+record='\000\000\136\122\167\110\204\137\114\000\141\200'
+line='5,2460523.64817,0,-1.440,0.012,3'
+
+list() { # NAME BYTES(printf) TEXT(printf)
+    printf "$2" >"$work/in"
+    printf "$3" >"$work/want"
+    same striplist "$1"
+}
+list 'an empty strip' '' "$header\n"
+list 'the worked record' "$record" "$header\n$line\n"
+list 'a lone zero byte: eight bits are left' '\000' "$header\nbad tail\n"
+list 'eleven bytes: 88 bits are left' '\000\000\000\000\000\000\000\000\000\000\000' "$header\nbad tail\n"
+list 'a bit set in the tail of seven' '\000\000\136\122\167\110\204\137\114\000\141\201' "$header\n${line}\nbad tail\n"
+list 'the highest bit of the tail set' '\000\000\136\122\167\110\204\137\114\000\141\300' "$header\n${line}\nbad tail\n"
+list 'one byte more: 15 bits are left' "$record\000" "$header\n$line\nbad tail\n"
+list 'a record of zeros' '\000\000\000\000\000\000\000\000\000\000\000\000' "$header\n0,0.00000,0,0.000,0.000,0\n"
+list 'a record of ones' '\377\377\377\377\377\377\377\377\377\377\377\200' "$header\n1048575,2748779.06943,1,-0.001,1.023,15\n"
+# eight records of zeros are 712 bits, 89 bytes: no tail at all
+head -c 89 /dev/zero >"$work/in"
+{ echo "$header"; i=0; while [ $i -lt 8 ]; do echo 0,0.00000,0,0.000,0.000,0; i=$((i + 1)); done; } >"$work/want"
+same striplist 'eight records, no tail'
+# 65,536 bytes of zeros: 5890 records and 78 bits
+head -c 65536 /dev/zero >"$work/in"
+{ echo "$header"; awk 'BEGIN { for (i = 0; i < 5890; i++) print "0,0.00000,0,0.000,0.000,0"; print "bad tail" }'; } >"$work/want"
+same striplist '65,536 bytes'
+# 65,528 bytes are 5,890 records and 14 bits; 65,527 have 6 bits left: a good tail
+head -c 65527 /dev/zero >"$work/in"
+{ echo "$header"; awk 'BEGIN { for (i = 0; i < 5890; i++) print "0,0.00000,0,0.000,0.000,0" }'; } >"$work/want"
+same striplist '65,527 bytes, a tail of six zeros'
+echo 'too long' >"$work/want"
+head -c 65537 /dev/zero >"$work/in"
+same striplist '65,537 bytes'
+head -c 300000 /dev/zero >"$work/in"
+same striplist '300,000 bytes'
+
+pack() { # NAME TEXT(printf) BYTES(printf)
+    printf "$2" >"$work/in"
+    printf "$3" >"$work/want"
+    same strippack "$1"
+}
+good() { # NAME LINE: the worked record's strip
+    pack "$1" "$header\n$2\n" "$record"
+}
+bad() { # NAME LINE
+    pack "$1" "$header\n$2\n" 'bad line 2\n'
+}
+pack 'an empty text' '' 'bad line 1\n'
+pack 'the header alone' "$header\n" ''
+pack 'the header without its newline' "$header" 'bad line 1\n'
+pack 'another last byte of the header' 'star,date,limit,mag,err,filteR\n' 'bad line 1\n'
+pack 'a carriage return in the header' "$header\r\n" 'bad line 1\n'
+pack 'a space behind the header' "$header \n" 'bad line 1\n'
+pack 'an empty line' "$header\n\n" 'bad line 2\n'
+pack 'an empty line at the end' "$header\n$line\n\n" 'bad line 3\n'
+pack 'no newline at the end' "$header\n$line" 'bad line 2\n'
+pack 'a bad third line after a good one' "$header\n$line\n$line,\n" 'bad line 3\n'
+pack 'two bad lines: the first is named' "$header\nx\ny\n" 'bad line 2\n'
+pack 'binary rubbish' '\000\001\377' 'bad line 1\n'
+good 'the worked line' "$line"
+good 'twelve decimals, cut' '5,2460523.648179999999,0,-1.440,0.012,3'
+good 'six decimals, cut' '5,2460523.648179,0,-1.440,0.012,3'
+bad 'thirteen decimals' '5,2460523.6481700000000,0,-1.440,0.012,3'
+bad 'four decimals' '5,2460523.6481,0,-1.440,0.012,3'
+bad 'no decimals' '5,2460523,0,-1.440,0.012,3'
+bad 'a needless zero in front of the star' '05,2460523.64817,0,-1.440,0.012,3'
+bad 'two zeros' '00,2460523.64817,0,-1.440,0.012,3'
+bad 'a needless zero in front of the days' '5,02460523.64817,0,-1.440,0.012,3'
+bad 'a needless zero in front of the magnitude' '5,2460523.64817,0,-01.440,0.012,3'
+bad 'a needless zero in front of the error' '5,2460523.64817,0,-1.440,00.012,3'
+bad 'no whole part' '5,2460523.64817,0,-.440,0.012,3'
+bad 'two decimals of the magnitude' '5,2460523.64817,0,-1.44,0.012,3'
+bad 'four decimals of the magnitude' '5,2460523.64817,0,-1.4400,0.012,3'
+bad 'four decimals of the error' '5,2460523.64817,0,-1.440,0.0120,3'
+bad 'a minus on zero' '5,2460523.64817,0,-0.000,0.012,3'
+bad 'a plus' '5,2460523.64817,0,+1.440,0.012,3'
+bad 'a minus on the error' '5,2460523.64817,0,-1.440,-0.012,3'
+bad 'a minus on the star' '-5,2460523.64817,0,-1.440,0.012,3'
+bad 'a space' '5, 2460523.64817,0,-1.440,0.012,3'
+bad 'five numbers' '5,2460523.64817,0,-1.440,0.012'
+bad 'seven numbers' '5,2460523.64817,0,-1.440,0.012,3,1'
+bad 'a carriage return' "$line\r"
+bad 'a star too large' '1048576,2460523.64817,0,-1.440,0.012,3'
+bad 'a date too large' '5,2748779.06944,0,-1.440,0.012,3'
+bad 'a limit too large' '5,2460523.64817,2,-1.440,0.012,3'
+bad 'a magnitude too large' '5,2460523.64817,0,32.768,0.012,3'
+bad 'a magnitude too small' '5,2460523.64817,0,-32.769,0.012,3'
+bad 'an error too large' '5,2460523.64817,0,-1.440,1.024,3'
+bad 'a filter too large' '5,2460523.64817,0,-1.440,0.012,16'
+bad 'a star of forty digits' '1000000000000000000000000000000000000005,2460523.64817,0,-1.440,0.012,3'
+bad 'a star that would wrap at 64 bits' '18446744073709551621,2460523.64817,0,-1.440,0.012,3'
+pack 'the largest of each' "$header\n1048575,2748779.06943,1,32.767,1.023,15\n" '\377\377\377\377\377\377\377\357\377\377\377\200'
+pack 'the least magnitude' "$header\n0,0.00000,0,-32.768,0.000,0\n" '\000\000\000\000\000\000\000\020\000\000\000\000'
+# 65,536 bytes of text: the header and 2,519 lines of 26 bytes are 65,525; one line of 37 more bytes would be 65,562
+{ echo "$header"; awk 'BEGIN { for (i = 0; i < 2518; i++) print "0,0.00000,0,0.000,0.000,0"; print "0,0.00000,0,0.000,0.000,0" }'; } >"$work/in"
+[ "$(wc -c <"$work/in")" -le 65536 ] || fail 'the long text is too long'
+head -c 28024 /dev/zero >"$work/want" # 2,519 records are 224,191 bits
+same strippack '2,519 lines'
+{ cat "$work/in"; printf 'xxxxxxxxxxx'; } >"$work/more"
+head -c 65536 "$work/more" >"$work/in"
+echo 'bad line 2521' >"$work/want"
+same strippack '65,536 bytes, the last line bad'
+printf 'x' >>"$work/in"
+echo 'too long' >"$work/want"
+same strippack '65,537 bytes'
+
+# there and back
+./strip pack <examples/night.txt >"$work/strip" || fail './strip pack examples/night.txt'
+cmp -s "$work/strip" examples/night.strip || fail './strip pack writes another strip than examples/night.strip'
+./strip list <examples/night.strip >"$work/text" || fail './strip list examples/night.strip'
+cmp -s "$work/text" examples/night.txt || fail './strip list writes another text than examples/night.txt'
+
+# the command's messages and statuses
+./strip >"$work/out" 2>"$work/said" && fail './strip without a word ended well'
+grep -q '^usage' "$work/said" || fail './strip without a word prints no usage'
+printf 'x' | ./strip pack >"$work/out" 2>"$work/said" && fail './strip pack of a bad text ended well'
+[ ! -s "$work/out" ] || fail './strip pack of a bad text wrote something'
+[ "$(cat "$work/said")" = 'bad line 1' ] || fail './strip pack does not tell the bad line'
+{ echo "$header"; awk 'BEGIN { for (i = 0; i < 8; i++) print "0,0.00000,0,0.000,0.000,0"; print "x" }'; } | ./strip pack >"$work/out" 2>"$work/said" && fail './strip pack of a bad tenth line ended well'
+[ ! -s "$work/out" ] || fail './strip pack takes a message of a strip'"'"'s length for a strip'
+[ "$(cat "$work/said")" = 'bad line 10' ] || fail './strip pack does not tell the bad tenth line'
+printf '\000' | ./strip list >"$work/out" 2>"$work/said" && fail './strip list of a bad tail ended well'
+[ "$(cat "$work/said")" = 'bad tail' ] || fail './strip list does not tell the bad tail'
+[ "$(cat "$work/out")" = "$header
+bad tail" ] || fail './strip list of a bad tail wrote something else'
+./strip list <. >"$work/out" 2>"$work/said" && fail './strip list of a folder ended well'
+[ ! -s "$work/out" ] || fail './strip list of a folder wrote something'
+echo "programs: $count outputs are as they should be"
