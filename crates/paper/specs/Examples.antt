@@ -1,7 +1,7 @@
 -- The worked examples that are proved: what is asked, what the definitions answer, and that each answer is the expected one.
 use Prim.Native.Nat.{ℕ, _^_}
 use mathlib.Core.Path.{_≡_, refl}
-use mathlib.Core.List.{List, [], _∷_, map}
+use mathlib.Core.List.{List, [], _∷_, _++_, map}
 use lib.ListN.{length}
 use lib.IntN.{ℤ, pos, negsuc}
 use Rattle.bits.specs.declared.Order.{Order}
@@ -24,6 +24,15 @@ use Rattle.layout.specs.declared.Compiled.{Compiled}
 use Rattle.layout.specs.Layout.{itemsOf, goodItems, isLayout}
 use Rattle.layout.specs.Plan.{takes, refilled}
 use Rattle.layout.specs.Answers.{compileRefusal, compileOf, compileOut}
+use Rattle.digits.specs.Digits.{ascii, newline}
+use Rattle.print.specs.Print.{digitsOf, placesIn, fixedOf}
+use Rattle.line.specs.Grammar.{spelled}
+use Rattle.listing.specs.Listing.{partsOf, lineOf}
+use Rattle.strip.specs.Bits.{recordAt}
+use Rattle.strip.specs.Strip.{recordsFrom, tailGood}
+use Rattle.text.specs.declared.Listed.{Listed}
+use Rattle.text.specs.Text.{header, badTail, listed, textOf}
+use Rattle.text.specs.Answers.{listRefusal, listOf}
 use Rattle.writer.specs.declared.Writer.{Writer}
 use Rattle.writer.specs.Writer.{oversized, writeRefusal}
 use Rattle.writer.specs.Answers as W
@@ -50,6 +59,8 @@ pub data Asked : Type 0 where
   remains : Order → List ℕ → ℕ → Asked
   -- the plan of a layout compiled into an output: the refusal number, the plan's length, and the output
   compiles : List ℕ → List ℕ → Asked
+  -- the text of a strip, listed into an output with room for so many bytes: the refusal number, the length, and the text
+  lists : List ℕ → ℕ → Asked
 
 -- reads of these widths from a cursor on
 unfoldable pub readings : Order → List ℕ → Cursor → List ℕ → List ℤ
@@ -74,6 +85,7 @@ told (remains o s n) =
     (pos (p .«partial_bits») ∷ pos (p .«partial_byte») ∷ map pos (remainderOf o s c))
 told (compiles s out) =
     let r : Compiled = compileOf s (length out) in (pos (r .refusal) ∷ pos (r .length) ∷ map pos (compileOut s out))
+told (lists s room) = let r : Listed = listOf s room in (pos (r .refusal) ∷ pos (r .length) ∷ map pos (textOf s))
 
 -- an example and its expected answer
 pub record Example : Type 0 where
@@ -118,9 +130,12 @@ table =
     ∷ (compiles (1 ∷ 57 ∷ []) (7 ∷ 7 ∷ 7 ∷ 7 ∷ []) gives (pos 0 ∷ pos 4 ∷ pos 0x00 ∷ pos 0xf8 ∷ pos 0x00 ∷ pos 0x81 ∷ []))
     ∷ (compiles (0 ∷ 64 ∷ []) (7 ∷ 7 ∷ 7 ∷ 7 ∷ []) gives (pos 0 ∷ pos 4 ∷ pos 0x00 ∷ pos 0xf8 ∷ pos 0x00 ∷ pos 0x48 ∷ []))
     ∷ (compiles [] (7 ∷ []) gives (pos 0 ∷ pos 0 ∷ pos 7 ∷ []))
+    -- P11
+    ∷ (lists (0x00 ∷ 0x00 ∷ 0x5e ∷ 0x52 ∷ 0x77 ∷ 0x48 ∷ 0x84 ∷ 0x5f ∷ 0x4c ∷ 0x00 ∷ 0x61 ∷ 0x80 ∷ []) 64
+    gives (pos 0 ∷ pos 64 ∷ map pos (ascii "star,date,limit,mag,err,filter" ++ newline ∷ (ascii "5,2460523.64817,0,-1.440,0.012,3" ++ newline ∷ []))))
     ∷ []
 
 -- every example of the table is answered as expected
 pub table-holds : map (λ (e : Example). told (e .asked)) table ≡ map (λ (e : Example). e .expected) table
-unfolding told readings writings itemsOf goodItems isLayout takes refilled compileRefusal compileOf compileOut oversized writeRefusal writeOf writeOut flushOf flushOut W.newOf P.belongs P.stateRefusal bytesOf put putOut first rest extendOf signed newOf readRefusal readOf remainderOf partialOf orElse stateRefusal belongs registerOf afterRead position bit join field held
+unfolding told readings writings ascii digitsOf placesIn fixedOf spelled partsOf lineOf recordAt recordsFrom tailGood header badTail listed listRefusal listOf itemsOf goodItems isLayout takes refilled compileRefusal compileOf compileOut oversized writeRefusal writeOf writeOut flushOf flushOut W.newOf P.belongs P.stateRefusal bytesOf put putOut first rest extendOf signed newOf readRefusal readOf remainderOf partialOf orElse stateRefusal belongs registerOf afterRead position bit join field held
 table-holds = refl
