@@ -1,0 +1,43 @@
+// What the Rust does on the inputs of docs/DIFFERENCES.md, one line each: a value, or that it panics.
+use bitter::{BigEndianReader, BigEndianWriter, BitReader, BitWriter, LittleEndianReader};
+
+fn shown(name: &str, f: impl FnOnce() -> String + std::panic::UnwindSafe) {
+    std::panic::set_hook(Box::new(|_| {}));
+    let told = std::panic::catch_unwind(f).unwrap_or_else(|_| "panics".to_string());
+    println!("{name}: {told}");
+}
+
+fn main() {
+    shown("sign_extend(0, 65)", || bitter::sign_extend(0, 65).to_string());
+    shown("sign_extend(16, 4)", || bitter::sign_extend(16, 4).to_string());
+    shown("sign_extend(2^63, 64)", || bitter::sign_extend(1 << 63, 64).to_string());
+    shown("read_bits(1) of an empty slice", || format!("{:?}", LittleEndianReader::new(&[]).read_bits(1)));
+    shown("read_bits(65) of nine bytes", || format!("{:?}", LittleEndianReader::new(&[0xff; 9]).read_bits(65)));
+    shown("peek(1) of a fresh reader", || format!("{}", LittleEndianReader::new(&[0xff]).peek(1)));
+    shown("consume(1) of a fresh reader, then its lookahead", || {
+        let mut r = LittleEndianReader::new(&[0xff]);
+        r.consume(1);
+        r.lookahead_bits().to_string()
+    });
+    shown("17 bytes after one bit of 17", || {
+        let mut r = BigEndianReader::new(&[0x5a; 17]);
+        r.read_bit();
+        r.read_bytes(&mut [0; 17]).to_string()
+    });
+    shown("write_bits(3, 0), write_bits(3, 8), flush, big endian", || {
+        let mut out = Vec::new();
+        let mut w = BigEndianWriter::new(&mut out);
+        w.write_bits(3, 0).unwrap();
+        w.write_bits(3, 8).unwrap();
+        BitWriter::flush(&mut w).unwrap();
+        drop(w);
+        format!("{out:02x?}")
+    });
+    shown("three bits written, then the writer is dropped", || {
+        let mut out = Vec::new();
+        BigEndianWriter::new(&mut out).write_bits(3, 5).unwrap();
+        format!("{out:02x?}")
+    });
+    shown("the NaN pattern 7fc01234 read as a single", || format!("{:x}", LittleEndianReader::new(&[0x34, 0x12, 0xc0, 0x7f]).read_f32().unwrap().to_bits()));
+    shown("bits_remaining of one byte", || format!("{:?}", LittleEndianReader::new(&[0xff]).bits_remaining()));
+}
