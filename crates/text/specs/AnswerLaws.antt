@@ -1,23 +1,25 @@
 -- Laws of answers: what a refusal number says, and what is answered and left with it.
 use Prim.Native.Nat.{ℕ, _+_, _*_, _/_, _<_, _≤_}
-use mathlib.Core.Path.{_≡_, refl, sym, ap, ap₂, _∙_}
+use mathlib.Core.Path.{_≡_, refl, sym, ap, _∙_}
 use mathlib.Core.Bool.{Bool, true, false, cond}
 use mathlib.Core.List.{List}
 use lib.ListN.{length}
 use lib.Seq.{sets}
 use lib.Dec.{eqb, ltb}
 use native.Mathlib.Omega.{arith}
-use borrow.Author.Tests.{lt-ltb, le-ltb, ltb-false, eq-eqb, ne-eqb}
+use borrow.Author.Tests.{lt-ltb, le-ltb, ltb-false, ne-eqb}
 use Rattle.bits.specs.Refusals.{limit, done, tooLong, badLine, noRoom}
+use Rattle.record.specs.declared.Record.{Record}
 use Rattle.record.specs.Record.{recordBits}
 use Rattle.strip.specs.Strip.{stripLength}
 use Rattle.strip.specs.Answers.{stripOut}
 use Rattle.text.specs.declared.Listed.{Listed}
 use Rattle.text.specs.declared.Packed.{Packed}
 use Rattle.text.specs.declared.inner.Found.{Found}
-use Rattle.text.specs.Text.{header, textOf, headed, bodyOf, badLineOf}
+use Rattle.text.specs.Text.{header, textOf, headed, Lines, bodyOf, badLineOf}
 use Rattle.text.specs.Answers.{listRefusal, listOf, listOut, packRefusal, packOf, packOut}
 use Rattle.text.specs.HeaderLaws.{length-header, headed-long}
+use Rattle.text.specs.LinesLaws.{allRead}
 
 -- where a test picks between a refusal and another number, done means that the test failed, or held
 test-failed : (t : Bool) {e r : ℕ} → 0 < e → cond t e r ≡ done → (t ≡ false) × (r ≡ done)
@@ -94,16 +96,23 @@ module _ (t : List ℕ) (len : ℕ) where
             let k : stripLength (length (bodyOf t .records)) ≤ len = omega arith in
             rw (le-ltb limit (length t) short, le-ltb limit len short-out, e, f, le-ltb _ _ k)
 
-pub pack-passed : (t : List ℕ) (len : ℕ) → packRefusal t len ≡ done
-    → (31 ≤ length t) × (length t ≤ limit) × (len ≤ limit) × (bodyOf t .good ≡ true) × (stripLength (length (bodyOf t .records)) ≤ len)
+-- what a text that packs has passed
+pub pack-tests : (t : List ℕ) (len : ℕ) → packRefusal t len ≡ done
+    → (length t ≤ limit) × (len ≤ limit) × (headed header t ≡ true) × (bodyOf t .good ≡ true) × (stripLength (length (bodyOf t .records)) ≤ len)
 unfolding packRefusal
-pack-passed t len z =
+pack-tests t len z =
     let (short, a) = test-failed (ltb limit (length t)) (omega arith) z in
     let (short-out, b) = test-failed (ltb limit len) (omega arith) a in
     let (head, c) = test-held (headed header t) (omega arith) b in
     let (good, d) = test-held (bodyOf t .good) (omega arith) c in
     let room = test-failed (ltb len (stripLength (length (bodyOf t .records)))) (omega arith) d .0 in
-    (header-fits t head, ltb-false _ _ short, ltb-false _ _ short-out, good, ltb-false _ _ room)
+    (ltb-false _ _ short, ltb-false _ _ short-out, head, good, ltb-false _ _ room)
+
+pub pack-passed : (t : List ℕ) (len : ℕ) → packRefusal t len ≡ done
+    → (31 ≤ length t) × (length t ≤ limit) × (len ≤ limit) × (bodyOf t .good ≡ true) × (stripLength (length (bodyOf t .records)) ≤ len)
+pack-passed t len z =
+    let (short, short-out, head, good, room) = pack-tests t len z in
+    (header-fits t head, short, short-out, good, room)
 
 abbrev pub packed : ℕ → ℕ → ℕ → Packed
 packed e n line = record { refusal = e; length = n; line = line }
@@ -122,3 +131,15 @@ module _ (t out : List ℕ) {f : Found} (g : f ≡ foundOf t (length out)) where
       → (packed done n 0 ≡ packOf t (length out)) × (last ≡ packOut t out)
   unfolding packOf packOut
   pack-done h e k = rw (← refusal-is, h) (ap (λ (n : ℕ). packed done n 0) e, k)
+
+-- a text whose lines are read as records, all good
+module _ (t out : List ℕ) (short : length t ≤ limit) (short-out : length out ≤ limit) (head : headed header t ≡ true) where
+  pub pack-read : (rs : List Record) → bodyOf t ≡ allRead rs → stripLength (length rs) ≤ length out
+      → (packOf t (length out) ≡ packed done (stripLength (length rs)) 0) × (packOut t out ≡ stripOut rs out)
+  unfolding packOf packOut
+  pack-read rs read room =
+      let good = ap (λ (l : Lines). l .good) read in
+      let count = ap (λ (l : Lines). length (l .records)) (sym read) in
+      let fine = has-room t (length out) short short-out head (length rs) count good (omega arith) in
+      let z : packRefusal t (length out) ≡ done = ap (λ (f : Found). f .refusal) (sym fine) in
+      rw z (ap (λ (l : Lines). packed done (stripLength (length (l .records))) 0) read, ap (λ (l : Lines). stripOut (l .records) out) read)

@@ -16,6 +16,10 @@ use Rattle.text.specs.declared.inner.Counted.{Counted}
 use Rattle.text.specs.Text.{header, Lines, more, stopped, linesIn, linesOf, bodyOf}
 use Rattle.text.specs.HeaderLaws.{length-header}
 
+-- records, and no bad line
+abbrev pub allRead : List Record → Lines
+allRead rs = record { records = rs; good = true }
+
 -- ---- one after the other
 
 pub lines-none : (n : ℕ) → linesIn n [] ≡ stopped true

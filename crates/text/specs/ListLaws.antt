@@ -1,8 +1,8 @@
 -- Laws of listed records: those of a strip, one line after the other, and the whole text put piece by piece.
-use Prim.Native.Nat.{ℕ, suc, _+_, _-_, _*_, _<_, _≤_}
+use Prim.Native.Nat.{ℕ, zero, suc, _+_, _-_, _<_, _≤_}
 use mathlib.Core.Path.{_≡_, refl, sym, ap, _∙_}
 use mathlib.Core.Bool.{Bool, true, false, cond}
-use mathlib.Core.List.{List, [], _∷_, _++_}
+use mathlib.Core.List.{List, [], _++_}
 use lib.ListN.{length, length-append}
 use lib.Seq.{sets}
 use native.Mathlib.Nat.{sub-zero}
@@ -12,7 +12,8 @@ use Rattle.bits.specs.FieldLaws.{field-lt}
 use Rattle.sign.specs.SignedLaws.{signed-fits}
 use Rattle.record.specs.Record.{Fits, recordBits}
 use Rattle.strip.specs.Bits.{recordAt}
-use Rattle.strip.specs.Strip.{recordsFrom, countOf, recordsOf, tailGood}
+use Rattle.strip.specs.Strip.{allFit, recordsFrom, recordsOf, tailGood}
+use Rattle.strip.specs.FitLaws.{fits-one}
 use Rattle.packing.specs.StoredLaws.{sets-append}
 use Rattle.listing.specs.Listing.{lineOf, sizeOf}
 use Rattle.listing.specs.PieceLaws.{line-length}
@@ -31,6 +32,16 @@ record-fits s p =
       error = field-lt Big s (p + 75) 10;
       filter = field-lt Big s (p + 85) 4;
     }
+
+pub records-fit : (s : List ℕ) (p n : ℕ) → allFit (recordsFrom s p n) ≡ true
+unfolding allFit recordsFrom
+records-fit s p zero = refl
+records-fit s p (suc n) = rw (fits-one (recordAt s p) (record-fits s p)) (records-fit s (p + recordBits) n)
+
+pub records-count : (s : List ℕ) (p n : ℕ) → length (recordsFrom s p n) ≡ n
+unfolding recordsFrom
+records-count s p zero = refl
+records-count s p (suc n) = ap suc (records-count s (p + recordBits) n)
 
 -- ---- the lines of n records from place p on, i of them passed
 

@@ -41,7 +41,7 @@ decides : (c : tie.After-shared-slice-known Inv-loop μ-loop) →
 decides c =
     let l = c .before .before .loop in
     let t = c .before .before .before .before .args .text .now in
-    sym (headed-next headerBytes t (l .i) (c .before .loop-test .taken) (omega arith)) ∙ l .inv .2
+    sym (headed-next headerBytes t (l .i) (omega arith) (omega arith)) ∙ l .inv .2
 
 returns-2 : tie.Need-returns-2 Inv-loop μ-loop
 returns-2 c =

@@ -1,6 +1,5 @@
 -- `pack_refusal` meets its contract: the tests, one by one; 89 n bits have room in len bytes if n is at most 8 len / 89. Assumes nothing.
 use mathlib.Core.Path.{_≡_, sym, ap, _∙_}
-use mathlib.Core.Bool.{Bool, true}
 use lib.ListN.{length}
 use native.Mathlib.Omega.{arith}
 use Rattle.text.specs.declared.inner.Counted.{Counted}

@@ -1,6 +1,5 @@
 -- `put_bad_tail` meets its contract: what is still to be stored from each place on is `bad tail` (`store-next`). Assumes nothing.
 use mathlib.Core.Path.{_≡_, refl, sym, ap, _∙_}
-use mathlib.Core.List.{List}
 use Prim.Native.Nat.{ℕ, _+_, _-_, _≤_}
 use lib.ListN.{length, getD, set, drop, length-set}
 use lib.Seq.{sets}
@@ -39,7 +38,7 @@ loop-again c =
     let l = c .before .loop in
     let at = c .before .before .args .at in
     let e : at + (l .i + 1) ≡ at + l .i + 1 = omega arith in
-    (simp length-set (l .inv .0), omega arith, ap (λ (k : ℕ). sets (set (l .out) (at + l .i) (getD badTailBytes (l .i) 0)) k (drop (l .i + 1) badTailBytes)) e ∙ store-next badTailBytes (l .out) (at + l .i) (l .i) (c .loop-test .taken) ∙ l .inv .2)
+    (simp length-set (l .inv .0), omega arith, ap (λ (k : ℕ). sets (set (l .out) (at + l .i) (getD badTailBytes (l .i) 0)) k (drop (l .i + 1) badTailBytes)) e ∙ store-next badTailBytes (l .out) (at + l .i) (l .i) (omega arith) ∙ l .inv .2)
 
 add-result : tie.Need-add-result Inv-loop μ-loop
 add-result c = omega arith

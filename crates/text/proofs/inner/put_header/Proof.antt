@@ -1,7 +1,6 @@
 -- `put_header` meets its contract: what is still to be stored from each place on is the header (`store-next`). Assumes nothing.
 use mathlib.Core.Path.{_≡_, refl, sym, ap, _∙_}
-use mathlib.Core.List.{List}
-use Prim.Native.Nat.{ℕ, _+_, _-_, _≤_}
+use Prim.Native.Nat.{ℕ, _-_, _≤_}
 use lib.ListN.{length, drop, length-set}
 use lib.Seq.{sets}
 use native.Mathlib.Omega.{arith}
@@ -33,7 +32,7 @@ loop-less c = omega arith
 loop-again : tie.Need-loop-again Inv-loop μ-loop
 loop-again c =
     let l = c .before .loop in
-    (simp length-set (l .inv .0), omega arith, store-next headerBytes (l .out) (l .i) (l .i) (c .loop-test .taken) ∙ l .inv .2)
+    (simp length-set (l .inv .0), omega arith, store-next headerBytes (l .out) (l .i) (l .i) (omega arith) ∙ l .inv .2)
 
 same-length : tie.Need-same-length Inv-loop μ-loop
 same-length c = c .before .loop .inv .0
