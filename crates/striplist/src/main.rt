@@ -1,4 +1,4 @@
 // A strip on standard input, as text on standard output.
 fn main() {
-    programs::list();
+    let _read = programs::inner::list();
 }

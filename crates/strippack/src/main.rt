@@ -1,4 +1,4 @@
 // A text on standard input, as a strip on standard output.
 fn main() {
-    programs::pack();
+    let _read = programs::inner::pack();
 }

@@ -113,12 +113,12 @@ fn has_header(text: &[u8]) -> bool
     if text.len() < 31 {
         return false;
     }
-    let mut i = 0;
-    while i < 31 {
-        if text[i] != HEADER[i] {
+    let mut k = 0;
+    while k < 31 {
+        if text[k] != HEADER[k] {
             return false;
         }
-        i += 1;
+        k += 1;
     }
     true
 }

@@ -36,21 +36,21 @@ array-read-if2 c = omega arith
 -- the byte at a place, with the bytes behind it, decides
 decides : (c : tie.After-shared-slice-known Inv-loop μ-loop) →
     let t = c .before .before .before .before .args .text .now in
-    let i = c .before .before .loop .i in
+    let i = c .before .before .loop .k in
     (eqb (getD t i 0) (getD headerBytes i 0) && headed (drop (i + 1) headerBytes) (drop (i + 1) t)) ≡ headed headerBytes t
 decides c =
     let l = c .before .before .loop in
     let t = c .before .before .before .before .args .text .now in
-    sym (headed-next headerBytes t (l .i) (omega arith) (omega arith)) ∙ l .inv .2
+    sym (headed-next headerBytes t (l .k) (omega arith) (omega arith)) ∙ l .inv .2
 
 returns-2 : tie.Need-returns-2 Inv-loop μ-loop
 returns-2 c =
     let t = c .before .before .before .before .before .args .text .now in
-    let i = c .before .before .before .loop .i in
+    let i = c .before .before .before .loop .k in
     ap (λ (b : Bool). b && headed (drop (i + 1) headerBytes) (drop (i + 1) t)) (sym (ne-eqb _ _ (c .if2 .taken))) ∙ decides (c .before) ∙ sym (all-is t)
 
-add-i : tie.Need-add-i Inv-loop μ-loop
-add-i c = omega arith
+add-k : tie.Need-add-k Inv-loop μ-loop
+add-k c = omega arith
 
 loop-less : tie.Need-loop-less Inv-loop μ-loop
 loop-less c = omega arith
@@ -58,14 +58,14 @@ loop-less c = omega arith
 loop-again : tie.Need-loop-again Inv-loop μ-loop
 loop-again c =
     let t = c .before .before .before .before .before .args .text .now in
-    let i = c .before .before .before .loop .i in
+    let i = c .before .before .before .loop .k in
     (omega arith, omega arith, ap (λ (b : Bool). b && headed (drop (i + 1) headerBytes) (drop (i + 1) t)) (sym (eq-eqb _ _ (c .if2 .left))) ∙ decides (c .before))
 
 returns-3 : tie.Need-returns-3 Inv-loop μ-loop
 unfolding headed
 returns-3 c =
     let t = c .before .before .before .args .text .now in
-    let e : 31 ≡ c .before .loop .i = omega arith in
+    let e : 31 ≡ c .before .loop .k = omega arith in
     ap (λ (k : ℕ). headed (drop k headerBytes) (drop k t)) e ∙ c .before .loop .inv .2 ∙ sym (all-is t)
 
 pub has-header-spec : {M : Type 1} → statement M
@@ -79,7 +79,7 @@ has-header-spec =
     shared-slice-read-if2
     array-read-if2
     returns-2
-    add-i
+    add-k
     loop-less
     loop-again
     returns-3)

@@ -5,8 +5,8 @@ use Prim.Native.Nat.{_≤_, _-_}
 use native.Mathlib.Omega.{arith}
 use lib.ListN.{length}
 use borrow.Author.Needs.{needs}
-use Rattle.programs.proofs.read_input.Statement.{statement}
-use Rattle.programs.proofs.read_input.Tie as tie
+use Rattle.programs.proofs.inner.read_input.Statement.{statement}
+use Rattle.programs.proofs.inner.read_input.Tie as tie
 
 abbrev Inv-loop : tie.InvT-loop
 Inv-loop buf₀ done₀ buf done = (done ≤ length buf) × (length buf ≡ length buf₀)
