@@ -1,0 +1,68 @@
+// Bytes read and written behind some bits.
+use bits::Order;
+use bits::refusals;
+use reader::Cursor;
+use writer::Writer;
+ghost use mathlib.Core.Path.{_≡_};
+
+fn wide(b: u8) -> u64 {
+    b as u64
+}
+
+// The first byte, or 0.
+fn first(buf: &[u8]) -> u64 {
+    if buf.len() == 0 {
+        return 0;
+    }
+    wide(buf[0])
+}
+
+// The buffer filled some times, from where the last time ended.
+pub fn reads(order: Order, src: &[u8], skip: u32, buf: &mut [u8], times: usize) -> u64
+    ensures { λ r. ⌜ r ≡ r ⌝ }
+{
+    let start = Cursor {
+        offset: 0,
+        lookahead: 0,
+        register: 0,
+    };
+    let skipped = start.read_bits(order, src, skip);
+    let mut cursor = skipped.cursor;
+    let mut sum: u64 = 0;
+    let mut left = times;
+    while 0 < left {
+        let moved = cursor.read_bytes(order, src, buf);
+        if moved.refusal != refusals::DONE {
+            return sum;
+        }
+        cursor = moved.cursor;
+        sum = sum ^ first(buf);
+        left -= 1;
+    }
+    sum
+}
+
+// The buffer written some times behind some zeros; the answer is how many bytes are full.
+pub fn writes(order: Order, out: &mut [u8], skip: u32, buf: &[u8], times: usize) -> u64
+    ensures { λ r. ⌜ r ≡ r ⌝ }
+{
+    let start = Writer {
+        written: 0,
+        held: 0,
+        number: 0,
+    };
+    let skipped = start.write_bits(order, out, skip, 0);
+    let mut writer = skipped.writer;
+    let mut left = times;
+    while 0 < left {
+        let wrote = writer.write_bytes(order, out, buf);
+        if wrote.refusal != refusals::DONE {
+            return 0;
+        }
+        writer = wrote.writer;
+        left -= 1;
+    }
+    let last = writer.flush(order, out);
+    let end = last.writer;
+    end.written as u64
+}

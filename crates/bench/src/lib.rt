@@ -1,0 +1,150 @@
+// The loops that bench/run times beside the Rust's: each goes through a whole slice in one way of the library and answers a sum of what
+// it read, which the driver compares. Nothing is claimed of them but that they are safe.
+use bits::Order;
+
+mod bytes;
+mod plans;
+mod reads;
+mod writes;
+
+// ---- fields, one call each
+
+#[no_mangle]
+pub extern "C" fn bench_read_38_big(src: &[u8], n: usize) -> u64 {
+    reads::public(Order::Big, src, 38, n)
+}
+
+#[no_mangle]
+pub extern "C" fn bench_read_38_little(src: &[u8], n: usize) -> u64 {
+    reads::public(Order::Little, src, 38, n)
+}
+
+#[no_mangle]
+pub extern "C" fn bench_read_big(src: &[u8], w: u32, n: usize) -> u64 {
+    reads::public(Order::Big, src, w, n)
+}
+
+#[no_mangle]
+pub extern "C" fn bench_read_little(src: &[u8], w: u32, n: usize) -> u64 {
+    reads::public(Order::Little, src, w, n)
+}
+
+#[no_mangle]
+pub extern "C" fn bench_inner_38_big(src: &[u8]) -> u64 {
+    reads::unchecked(Order::Big, src)
+}
+
+#[no_mangle]
+pub extern "C" fn bench_inner_38_little(src: &[u8]) -> u64 {
+    reads::unchecked(Order::Little, src)
+}
+
+#[no_mangle]
+pub extern "C" fn bench_place_38_big(src: &[u8]) -> u64 {
+    reads::by_place(Order::Big, src)
+}
+
+#[no_mangle]
+pub extern "C" fn bench_place_38_little(src: &[u8]) -> u64 {
+    reads::by_place(Order::Little, src)
+}
+
+#[no_mangle]
+pub extern "C" fn bench_write_38_big(out: &mut [u8], values: &[u64]) -> u64 {
+    writes::public(Order::Big, out, 38, values)
+}
+
+#[no_mangle]
+pub extern "C" fn bench_write_38_little(out: &mut [u8], values: &[u64]) -> u64 {
+    writes::public(Order::Little, out, 38, values)
+}
+
+#[no_mangle]
+pub extern "C" fn bench_write_big(out: &mut [u8], w: u32, values: &[u64]) -> u64 {
+    writes::public(Order::Big, out, w, values)
+}
+
+#[no_mangle]
+pub extern "C" fn bench_write_record(out: &mut [u8], numbers: &[u64]) -> u64 {
+    writes::records(out, numbers)
+}
+
+// ---- plans
+
+#[no_mangle]
+pub extern "C" fn bench_fields_big(src: &[u8], plan: &[u8], results: &mut [u64]) -> u64 {
+    plans::fields(Order::Big, src, plan, results)
+}
+
+#[no_mangle]
+pub extern "C" fn bench_fields_little(src: &[u8], plan: &[u8], results: &mut [u64]) -> u64 {
+    plans::fields(Order::Little, src, plan, results)
+}
+
+#[no_mangle]
+pub extern "C" fn bench_run_big(src: &[u8], plan: &[u8], n: usize, results: &mut [u64]) -> u64 {
+    plans::runs(Order::Big, src, plan, n, results)
+}
+
+#[no_mangle]
+pub extern "C" fn bench_run_little(src: &[u8], plan: &[u8], n: usize, results: &mut [u64]) -> u64 {
+    plans::runs(Order::Little, src, plan, n, results)
+}
+
+// Compiles a layout for the driver; the answer is the plan's length.
+#[no_mangle]
+pub extern "C" fn bench_compile(layout: &[u8], plan: &mut [u8]) -> usize {
+    let compiled = layout::compile(layout, plan);
+    compiled.length
+}
+
+// ---- whole strips
+
+#[no_mangle]
+pub extern "C" fn bench_read_strip(src: &[u8], numbers: &mut [u64]) -> usize {
+    let read = strip::read_strip(src, numbers);
+    read.count
+}
+
+#[no_mangle]
+pub extern "C" fn bench_pack_strip(numbers: &[u64], n: usize, out: &mut [u8]) -> usize {
+    let packed = strip::pack_strip(numbers, n, out);
+    packed.length
+}
+
+// ---- bytes
+
+#[no_mangle]
+pub extern "C" fn bench_read_bytes_big(src: &[u8], skip: u32, buf: &mut [u8], times: usize) -> u64 {
+    bytes::reads(Order::Big, src, skip, buf, times)
+}
+
+#[no_mangle]
+pub extern "C" fn bench_read_bytes_little(
+    src: &[u8],
+    skip: u32,
+    buf: &mut [u8],
+    times: usize,
+) -> u64 {
+    bytes::reads(Order::Little, src, skip, buf, times)
+}
+
+#[no_mangle]
+pub extern "C" fn bench_write_bytes_big(
+    out: &mut [u8],
+    skip: u32,
+    buf: &[u8],
+    times: usize,
+) -> u64 {
+    bytes::writes(Order::Big, out, skip, buf, times)
+}
+
+#[no_mangle]
+pub extern "C" fn bench_write_bytes_little(
+    out: &mut [u8],
+    skip: u32,
+    buf: &[u8],
+    times: usize,
+) -> u64 {
+    bytes::writes(Order::Little, out, skip, buf, times)
+}

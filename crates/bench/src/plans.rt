@@ -1,0 +1,82 @@
+// Layouts read over and over, each from where the last ended.
+use bits::Order;
+use bits::refusals;
+use reader::Cursor;
+ghost use mathlib.Core.Path.{_≡_};
+ghost use mathlib.Core.Bool.{true};
+ghost use Prim.Native.Nat.{_≤_};
+ghost use lib.ListN.{length};
+ghost use Rattle.bits.specs.Refusals.{limit};
+ghost use Rattle.layout.specs.Layout.{itemsOf, isLayout, bitsOf};
+
+// The sum of the first n results.
+fn summed(results: &[u64], n: usize) -> u64 {
+    let mut sum: u64 = 0;
+    let mut i = 0;
+    while i < n {
+        if results.len() <= i {
+            return sum;
+        }
+        sum = sum ^ results[i];
+        i += 1;
+    }
+    sum
+}
+
+// A layout of `bits` bits by the inner runner, as often as the slice has it.
+fn over(order: Order, src: &[u8], layout: &[u8], bits: usize, results: &mut [u64]) -> u64
+    requires { ⌜ (length (now src) ≤ limit) × (isLayout (now layout) ≡ true) × (bitsOf (itemsOf (now layout)) ≡ bits) × (length (itemsOf (now layout)) ≤ length (now results)) ⌝ }
+{
+    if bits == 0 {
+        return 0;
+    }
+    let mut place = 0;
+    let mut sum: u64 = 0;
+    while bits <= 8 * src.len() - place {
+        place = plan::inner::fields(order, src, layout, place, results);
+        sum = sum ^ summed(results, layout.len() / 2);
+    }
+    sum
+}
+
+// A plan, checked and decoded once.
+pub fn fields(order: Order, src: &[u8], plan: &[u8], results: &mut [u64]) -> u64
+    ensures { λ r. ⌜ r ≡ r ⌝ }
+{
+    if refusals::LIMIT < src.len() {
+        return 0;
+    }
+    if layout::inner::is_plan(plan) {
+        let size = layout::inner::measure(plan);
+        if results.len() < size.fields {
+            return 0;
+        }
+        let mut space = [0u8; 128];
+        let n = plan::inner::decode(plan, &mut space);
+        return over(order, src, &space[..n], size.bits, results);
+    }
+    0
+}
+
+// A plan by the public call, n times or as often as the slice has its layout.
+pub fn runs(order: Order, src: &[u8], plan: &[u8], n: usize, results: &mut [u64]) -> u64
+    ensures { λ r. ⌜ r ≡ r ⌝ }
+{
+    let mut cursor = Cursor {
+        offset: 0,
+        lookahead: 0,
+        register: 0,
+    };
+    let mut sum: u64 = 0;
+    let mut left = n;
+    while 0 < left {
+        let ran = plan::run(cursor, order, src, plan, results);
+        if ran.refusal != refusals::DONE {
+            return sum;
+        }
+        cursor = ran.cursor;
+        sum = sum ^ summed(results, results.len());
+        left -= 1;
+    }
+    sum
+}
