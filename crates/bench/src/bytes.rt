@@ -3,7 +3,6 @@ use bits::Order;
 use bits::refusals;
 use reader::Cursor;
 use writer::Writer;
-ghost use mathlib.Core.Path.{_≡_};
 
 fn wide(b: u8) -> u64 {
     b as u64
@@ -18,9 +17,7 @@ fn first(buf: &[u8]) -> u64 {
 }
 
 // The buffer filled some times, from where the last time ended.
-pub fn reads(order: Order, src: &[u8], skip: u32, buf: &mut [u8], times: usize) -> u64
-    ensures { λ r. ⌜ r ≡ r ⌝ }
-{
+pub fn reads(order: Order, src: &[u8], skip: u32, buf: &mut [u8], times: usize) -> u64 {
     let start = Cursor {
         offset: 0,
         lookahead: 0,
@@ -43,9 +40,7 @@ pub fn reads(order: Order, src: &[u8], skip: u32, buf: &mut [u8], times: usize) 
 }
 
 // The buffer written some times behind some zeros; the answer is how many bytes are full.
-pub fn writes(order: Order, out: &mut [u8], skip: u32, buf: &[u8], times: usize) -> u64
-    ensures { λ r. ⌜ r ≡ r ⌝ }
-{
+pub fn writes(order: Order, out: &mut [u8], skip: u32, buf: &[u8], times: usize) -> u64 {
     let start = Writer {
         written: 0,
         held: 0,

@@ -40,9 +40,7 @@ fn over(order: Order, src: &[u8], layout: &[u8], bits: usize, results: &mut [u64
 }
 
 // A plan, checked and decoded once.
-pub fn fields(order: Order, src: &[u8], plan: &[u8], results: &mut [u64]) -> u64
-    ensures { λ r. ⌜ r ≡ r ⌝ }
-{
+pub fn fields(order: Order, src: &[u8], plan: &[u8], results: &mut [u64]) -> u64 {
     if refusals::LIMIT < src.len() {
         return 0;
     }
@@ -59,9 +57,7 @@ pub fn fields(order: Order, src: &[u8], plan: &[u8], results: &mut [u64]) -> u64
 }
 
 // A plan by the public call, n times or as often as the slice has its layout.
-pub fn runs(order: Order, src: &[u8], plan: &[u8], n: usize, results: &mut [u64]) -> u64
-    ensures { λ r. ⌜ r ≡ r ⌝ }
-{
+pub fn runs(order: Order, src: &[u8], plan: &[u8], n: usize, results: &mut [u64]) -> u64 {
     let mut cursor = Cursor {
         offset: 0,
         lookahead: 0,

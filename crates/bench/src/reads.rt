@@ -3,12 +3,9 @@ use bits::Order;
 use bits::refusals;
 use lookahead::State;
 use reader::Cursor;
-ghost use mathlib.Core.Path.{_≡_};
 
 // n fields by the public call, or as many as there are.
-pub fn public(order: Order, src: &[u8], w: u32, n: usize) -> u64
-    ensures { λ r. ⌜ r ≡ r ⌝ }
-{
+pub fn public(order: Order, src: &[u8], w: u32, n: usize) -> u64 {
     let mut cursor = Cursor {
         offset: 0,
         lookahead: 0,
@@ -29,9 +26,7 @@ pub fn public(order: Order, src: &[u8], w: u32, n: usize) -> u64
 }
 
 // Every field of 38 bits by the inner read, which tests nothing.
-pub fn unchecked(order: Order, src: &[u8]) -> u64
-    ensures { λ r. ⌜ r ≡ r ⌝ }
-{
+pub fn unchecked(order: Order, src: &[u8]) -> u64 {
     if refusals::LIMIT < src.len() {
         return 0;
     }
@@ -52,9 +47,7 @@ pub fn unchecked(order: Order, src: &[u8]) -> u64
 }
 
 // Every field of 38 bits by its place.
-pub fn by_place(order: Order, src: &[u8]) -> u64
-    ensures { λ r. ⌜ r ≡ r ⌝ }
-{
+pub fn by_place(order: Order, src: &[u8]) -> u64 {
     if refusals::LIMIT < src.len() {
         return 0;
     }

@@ -3,12 +3,9 @@ use bits::Order;
 use bits::refusals;
 use writer::Writer;
 use writer::Wrote;
-ghost use mathlib.Core.Path.{_≡_};
 
 // The values as fields of one width by the public call; the answer is how many bytes are full.
-pub fn public(order: Order, out: &mut [u8], w: u32, values: &[u64]) -> u64
-    ensures { λ r. ⌜ r ≡ r ⌝ }
-{
+pub fn public(order: Order, out: &mut [u8], w: u32, values: &[u64]) -> u64 {
     let mut writer = Writer {
         written: 0,
         held: 0,
@@ -78,9 +75,7 @@ fn record(
 }
 
 // Records of six numbers, six calls each.
-pub fn records(out: &mut [u8], numbers: &[u64]) -> u64
-    ensures { λ r. ⌜ r ≡ r ⌝ }
-{
+pub fn records(out: &mut [u8], numbers: &[u64]) -> u64 {
     let mut writer = Writer {
         written: 0,
         held: 0,
