@@ -1,5 +1,5 @@
 -- The state of a cursor, when it belongs to a slice, and what reading leaves.
-use Prim.Native.Nat.{ℕ, _*_, _≤_}
+use Prim.Native.Nat.{ℕ, _+_, _*_, _≤_}
 use mathlib.Core.Path.{_≡_}
 use mathlib.Core.List.{List}
 use mathlib.Core.Bool.{Bool, cond, _&&_}
@@ -45,3 +45,7 @@ stateRefusal o s c = cond (ltb limit (length s)) tooLong (cond (belongs o s c) d
 -- a read of w bits: the field at the place, and the state with the counts after it
 abbrev pub takenOf : Order → List ℕ → Counts → ℕ → Taken
 takenOf o s k w = record { value = field o s (place k) w; state = stateOf o s (afterRead (length s) w k) }
+
+-- whether a state with these counts, of a slice within the limit, has eight bytes before its offset and eight behind it
+unfoldable pub inside : ℕ → Counts → Bool
+inside len k = leb len limit && (leb (k .offset + 8) len && (leb 8 (k .offset) && leb (k .lookahead) 63))

@@ -1,24 +1,25 @@
 -- Laws of states: which belong to a slice, and what loading, peeking, consuming, refilling and reading give.
-use Prim.Native.Nat.{ℕ, _+_, _-_, _*_, _≤_}
+use Prim.Native.Nat.{ℕ, _+_, _-_, _*_, _/_, _%_, _^_, _<_, _≤_}
 use mathlib.Core.Path.{_≡_, refl, sym, ap, ap₂, _∙_, subst}
 use mathlib.Core.List.{List}
 use mathlib.Core.Bool.{Bool, true, false, cond, _&&_, _||_}
-use lib.ListN.{length}
+use lib.ListN.{length, getD}
 use lib.Dec.{ltb, eqb}
 use native.Mathlib.Omega.{arith}
 use borrow.Author.Tests.{ltb-false, leb-true, eqb-true, le-leb}
 use Rattle.bits.specs.declared.Order.{Order}
 use Rattle.bits.specs.Refusals.{limit, done, tooLong, foreign}
 use Rattle.bits.specs.Field.{field, join}
-use Rattle.bits.specs.Word.{first, held, skipped}
-use Rattle.bits.specs.FieldLaws.{field-cut}
-use Rattle.bits.specs.WordLaws.{first-held, skipped-held, first-skipped, last-held}
+use Rattle.bits.specs.Word.{first, rest, held, skipped}
+use Rattle.bits.specs.JoinLaws.{rest-join}
+use Rattle.bits.specs.FieldLaws.{field-lt, field-split, field-cut, field-byte}
+use Rattle.bits.specs.WordLaws.{first-held, skipped-held, skipped-field, last-held}
 use Rattle.counts.specs.declared.Counts.{Counts}
 use Rattle.counts.specs.Counts.{place, unfetched, bitsLeft, Within, afterRefill, afterTake, refillIf}
 use Rattle.counts.specs.CountLaws.{wide₁, wide₂, if-place, short-counts, wide-place, wide-counts, take-within, refill-within, read-within}
 use Rattle.lookahead.specs.declared.State.{State}
 use Rattle.lookahead.specs.declared.Taken.{Taken}
-use Rattle.lookahead.specs.State.{registerOf, countsOf, stateOf, belongs, Belongs, stateRefusal, takenOf}
+use Rattle.lookahead.specs.State.{registerOf, countsOf, stateOf, belongs, Belongs, stateRefusal, takenOf, inside}
 
 -- ---- states that belong to a slice
 
@@ -88,19 +89,58 @@ module _ (o : Order) (s : List ℕ) {k : Counts} where
 
 -- ---- registers as the code computes them
 
-module _ (o : Order) (s : List ℕ) {k : Counts} (h : Within (length s) k) where
-  -- the last bits before an offset below 8, out of the slice's first eight bytes
-  pub near-value : k .offset ≤ 7 → first o (k .lookahead) (64 - k .lookahead) (skipped o (place k) (field o s 0 64)) ≡ field o s (place k) (k .lookahead)
-  near-value a =
-      let e : 0 + place k ≡ place k = omega arith in
-      first-skipped o s 0 (place k) (k .lookahead) (omega arith) ∙ ap (λ (p : ℕ). field o s p (k .lookahead)) e
+-- the last n bits of byte i
+pub last-bits : (o : Order) (s : List ℕ) (i n : ℕ) → getD s i 0 < 2 ^ 8 → n ≤ 8 → rest o (8 - n) n (getD s i 0) ≡ field o s (8 * (i + 1) - n) n
+last-bits o s i n b h =
+    let e : 8 - n + n ≡ 8 = omega arith in
+    let q : 8 * i + (8 - n) ≡ 8 * (i + 1) - n = omega arith in
+    ap (rest o (8 - n) n) (sym (field-byte o s i b) ∙ ap (field o s (8 * i)) (sym e) ∙ field-split o s (8 * i) (8 - n) n)
+    ∙ rest-join o (8 - n) n (field-lt o s (8 * i) (8 - n)) (field-lt o s (8 * i + (8 - n)) n)
+    ∙ ap (λ (p : ℕ). field o s p n) q
 
+-- the bits before byte i, and the byte
+pub byte-behind : (o : Order) (s : List ℕ) (i n : ℕ) → getD s i 0 < 2 ^ 8 → n ≤ 8 * i →
+    join o n 8 (field o s (8 * i - n) n) (getD s i 0) ≡ field o s (8 * (i + 1) - (n + 8)) (n + 8)
+byte-behind o s i n b h =
+    let e : 8 * i - n + n ≡ 8 * i = omega arith in
+    let q : 8 * i - n ≡ 8 * (i + 1) - (n + 8) = omega arith in
+    ap (join o n 8 (field o s (8 * i - n) n)) (sym (field-byte o s i b) ∙ ap (λ (p : ℕ). field o s p 8) (sym e))
+    ∙ sym (field-split o s (8 * i - n) n 8)
+    ∙ ap (λ (p : ℕ). field o s p (n + 8)) q
+
+module _ (o : Order) (s : List ℕ) {k : Counts} (h : Within (length s) k) where
   -- the last bits of the eight bytes before the offset
   pub far-register : 8 ≤ k .offset → skipped o (63 - k .lookahead) (skipped o 1 (field o s (8 * (k .offset - 8)) 64)) ≡ registerOf o s k
   unfolding registerOf
   far-register a =
       let e : 8 * (k .offset - 8) + (64 - k .lookahead) ≡ place k = omega arith in
       last-held o s (8 * (k .offset - 8)) (k .lookahead) (h .small) ∙ ap (λ (p : ℕ). held o (k .lookahead) (field o s p (k .lookahead))) e
+
+  -- the same by one move, where some bits are held
+  pub full-register : 8 ≤ k .offset → 1 ≤ k .lookahead → skipped o (64 - k .lookahead) (field o s (8 * (k .offset - 8)) 64) ≡ registerOf o s k
+  unfolding registerOf
+  full-register a b =
+      let l : 64 - (64 - k .lookahead) ≡ k .lookahead = omega (arith, h .small) in
+      let e : 8 * (k .offset - 8) + (64 - k .lookahead) ≡ place k = omega (arith, h .small, h .behind) in
+      skipped-field o s (8 * (k .offset - 8)) (64 - k .lookahead) (omega arith)
+      ∙ ap₂ (λ (p n : ℕ). held o n (field o s p n)) e l
+
+-- what it says of counts that they are inside
+pub inside-is : (len : ℕ) (k : Counts) → inside len k ≡ true → (len ≤ limit) × (k .offset + 8 ≤ len) × (8 ≤ k .offset) × (k .lookahead ≤ 63)
+unfolding inside
+inside-is len k e =
+    let (short, e₁) = both e in
+    let (more, e₂) = both e₁ in
+    let (less, small) = both e₂ in
+    (leb-true _ _ short, leb-true _ _ more, leb-true _ _ less, leb-true _ _ small)
+
+-- a refill with eight bytes to fetch from
+pub inside-counts : (len : ℕ) (k : Counts) → k .offset + 8 ≤ len → k .lookahead ≤ 63 →
+    record { offset = k .offset + (63 - k .lookahead) / 8; lookahead = 56 + k .lookahead % 8 } ≡ afterRefill len k
+inside-counts len k a b =
+    let e : k .offset + (63 - k .lookahead) / 8 ≡ afterRefill len k .offset = omega arith in
+    let f : 56 + k .lookahead % 8 ≡ afterRefill len k .lookahead = omega arith in
+    λ i. record { offset = e i; lookahead = f i }
 
 module _ {o : Order} {s : List ℕ} {c : State} (h : Belongs o s c) (n : ℕ) (a : n ≤ c .lookahead) where
   pub peeked : first o n (64 - n) (c .register) ≡ field o s (place (countsOf c)) n

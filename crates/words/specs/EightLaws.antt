@@ -1,6 +1,6 @@
 -- Fields of eight whole bytes, in both orders.
 use mathlib.Core.Path.{_≡_, refl, sym, ap, _∙_}
-use Prim.Native.Nat.{ℕ, _+_, _*_, _/_, _%_, _^_, _<_}
+use Prim.Native.Nat.{ℕ, _+_, _-_, _*_, _/_, _%_, _^_, _<_, _≤_}
 use native.Mathlib.Nat.{add-zero, zero-mul, zero-add, div-one, mod-eq-of-lt}
 use native.Mathlib.Omega.{arith}
 use mathlib.Core.List.{List}
@@ -10,9 +10,22 @@ use Rattle.bits.specs.declared.Order.{Order}
 use Rattle.bits.specs.declared.Order.the-variants.{Little, Big}
 use Rattle.bits.specs.Field.{join, field}
 use Rattle.bits.specs.Word.{first, skipped}
-use Rattle.bits.specs.FieldLaws.{field-lt, field-byte, field-next-byte}
+use Rattle.bits.specs.FieldLaws.{field-lt, field-byte, field-next-byte, field-split}
 use Rattle.bits.specs.WordLaws.{first-skipped}
 use Rattle.words.specs.Eight.{eight, swapped}
+
+-- a byte, and the n bytes after it
+pub byte-first : (o : Order) (s : List ℕ) (at n : ℕ) → getD s at 0 < 2 ^ 8 → join o 8 (8 * n) (getD s at 0) (field o s (8 * (at + 1)) (8 * n)) ≡ field o s (8 * at) (8 * (n + 1))
+byte-first o s at n b =
+    let e : 8 * (at + 1) ≡ 8 * at + 8 = omega arith in
+    let f : 8 * (n + 1) ≡ 8 + 8 * n = omega arith in
+    rw (f, field-split o s (8 * at) 8 (8 * n), e, field-byte o s at b)
+
+-- a field of at most 57 bits lies within the 64 bits from its place's byte on
+pub in-window : (o : Order) (s : List ℕ) (p w : ℕ) → w ≤ 57 → first o w (64 - w) (skipped o (p % 8) (field o s (8 * (p / 8)) 64)) ≡ field o s p w
+in-window o s p w h =
+    let e : 8 * (p / 8) + p % 8 ≡ p = omega arith in
+    first-skipped o s (8 * (p / 8)) (p % 8) w (omega arith) ∙ ap (λ (q : ℕ). field o s q w) e
 
 module _ (s : List ℕ) (at : ℕ) (b : (i : ℕ) → getD s i 0 < 2 ^ 8) where
   -- the first i bytes, and one byte more

@@ -1,10 +1,11 @@
 // Loads and fields by place, for proved callers.
 use bits::Order;
 ghost use mathlib.Core.Path.{_≡_};
-ghost use Prim.Native.Nat.{_+_, _*_, _≤_};
+ghost use Prim.Native.Nat.{_+_, _-_, _*_, _/_, _≤_};
 ghost use lib.ListN.{length, getD};
 ghost use Rattle.bits.specs.Refusals.{limit};
 ghost use Rattle.bits.specs.Field.{field};
+ghost use Rattle.bits.specs.Word.{first, skipped};
 ghost use Rattle.words.specs.Eight.{eight, swapped};
 
 // The byte at k, or 0 past the end.
@@ -72,35 +73,41 @@ pub fn load_whole(order: Order, src: &[u8], at: usize) -> u64
     }
 }
 
-// The 64 bits from byte `at` on, byte by byte; past the end zeros stand.
-fn load_end(order: Order, src: &[u8], at: usize) -> u64
-    requires { ⌜ at ≤ length (now src) ⌝ }
-    ensures { λ r. ⌜ r ≡ field order (now (src .entry)) (8 * at) 64 ⌝ }
+// n bytes from byte `at` on, one by one; past the end zeros stand. (It calls itself, so that the compiler leaves it out of line.)
+fn load_bytes(order: Order, src: &[u8], at: usize, n: u32) -> u64
+    requires { ⌜ (n ≤ 8) × (at + n ≤ limit + 8) ⌝ }
+    ensures { λ r. ⌜ r ≡ field order (now (src .entry)) (8 * at) (8 * n) ⌝ }
 {
-    let mut v: u64 = 0;
-    let mut i: u32 = 0;
-    while i < 8 {
-        let b = byte_at(src, at + i as usize);
-        v = bits::inner::join_bits(order, 8 * i, 8, v, b as u64);
-        i += 1;
+    if n == 0 {
+        return 0;
     }
-    v
+    let b = byte_at(src, at);
+    let rest = load_bytes(order, src, at + 1, n - 1);
+    bits::inner::join_bits(order, 8, 8 * (n - 1), b as u64, rest)
 }
 
-// The 64 bits from byte `at` on; past the end zeros stand. (The slow way is called twice, so that the compiler leaves it out of line.)
+// The 64 bits from byte `at` on, byte by byte. (The slice is lent again, so that the compiler keeps the caller's in registers.)
+fn load_end(order: Order, src: &[u8], at: usize) -> u64
+    requires { ⌜ at ≤ limit ⌝ }
+    ensures { λ r. ⌜ r ≡ field order (now (src .entry)) (8 * at) 64 ⌝ }
+{
+    load_bytes(order, &src[..src.len()], at, 8)
+}
+
+// The 64 bits from byte `at` on; past the end zeros stand.
 pub fn load(order: Order, src: &[u8], at: usize) -> u64
-    requires { ⌜ at ≤ length (now src) ⌝ }
+    requires { ⌜ (at ≤ length (now src)) × (length (now src) ≤ limit) ⌝ }
     ensures { λ r. ⌜ r ≡ field order (now (src .entry)) (8 * at) 64 ⌝ }
 {
     match order {
         Order::Little => {
-            if src.len() - at < 8 {
+            if src.len() < at + 8 {
                 return load_end(Order::Little, src, at);
             }
             load_whole(Order::Little, src, at)
         }
         Order::Big => {
-            if src.len() - at < 8 {
+            if src.len() < at + 8 {
                 return load_end(Order::Big, src, at);
             }
             load_whole(Order::Big, src, at)
@@ -108,14 +115,38 @@ pub fn load(order: Order, src: &[u8], at: usize) -> u64
     }
 }
 
-// The field of at most 57 bits at a place.
-pub fn short_field(order: Order, src: &[u8], place: usize, width: u32) -> u64
-    requires { ⌜ (width ≤ 57) × (place ≤ 8 * length (now src)) ⌝ }
+// Out of 64 bits the w that come after the first `used`.
+fn part(order: Order, word: u64, used: u32, w: u32) -> u64
+    requires { ⌜ (used ≤ 63) × (w ≤ 63) ⌝ }
+    ensures { λ r. ⌜ r ≡ first order w (64 - w) (skipped order used word) ⌝ }
+{
+    bits::inner::first_bits(order, bits::inner::skip_bits(order, word, used), w)
+}
+
+// The field of at most 57 bits at a place from whose byte on eight are there.
+pub fn whole_field(order: Order, src: &[u8], place: usize, width: u32) -> u64
+    requires { ⌜ (width ≤ 57) × (place / 8 + 8 ≤ length (now src)) ⌝ }
     ensures { λ r. ⌜ r ≡ field order (now (src .entry)) place width ⌝ }
 {
-    let word = load(order, src, place / 8);
-    let used = (place % 8) as u32;
-    bits::inner::first_bits(order, bits::inner::skip_bits(order, word, used), width)
+    part(
+        order,
+        load_whole(order, src, place / 8),
+        (place % 8) as u32,
+        width,
+    )
+}
+
+// The field of at most 57 bits at a place.
+pub fn short_field(order: Order, src: &[u8], place: usize, width: u32) -> u64
+    requires { ⌜ (width ≤ 57) × (place ≤ 8 * length (now src)) × (length (now src) ≤ limit) ⌝ }
+    ensures { λ r. ⌜ r ≡ field order (now (src .entry)) place width ⌝ }
+{
+    part(
+        order,
+        load(order, src, place / 8),
+        (place % 8) as u32,
+        width,
+    )
 }
 
 // The field of at most 64 bits at a place; a wide one is two short ones, joined.
@@ -130,4 +161,15 @@ pub fn field_at(order: Order, src: &[u8], place: usize, width: u32) -> u64
     let low = short_field(order, src, place, 56);
     let high = short_field(order, src, place + 56, more);
     bits::inner::join_bits(order, 56, more, low, high)
+}
+
+// The field of at most 64 bits at a place from whose byte on eight are there: no test of the end, but for a wide one.
+pub fn field_inside(order: Order, src: &[u8], place: usize, width: u32) -> u64
+    requires { ⌜ (width ≤ 64) × (place + width ≤ 8 * length (now src)) × (place / 8 + 8 ≤ length (now src)) × (length (now src) ≤ limit) ⌝ }
+    ensures { λ r. ⌜ r ≡ field order (now (src .entry)) place width ⌝ }
+{
+    if width <= 56 {
+        return whole_field(order, src, place, width);
+    }
+    field_at(order, src, place, width)
 }

@@ -6,8 +6,8 @@ use Rattle.words.proofs.inner.load.Tie as tie
 enum-told : tie.Need-enum-told
 enum-told c = search needs
 
-sub-if1 : tie.Need-sub-if1
-sub-if1 c = search needs
+add-if1 : tie.Need-add-if1
+add-if1 c = search needs
 
 load-end-requires : tie.Need-load-end-requires
 load-end-requires c κs = search needs
@@ -21,8 +21,8 @@ load-whole-requires c κs = search needs
 enum-told-2 : tie.Need-enum-told-2
 enum-told-2 c = search needs
 
-sub-if2 : tie.Need-sub-if2
-sub-if2 c = search needs
+add-if2 : tie.Need-add-if2
+add-if2 c = search needs
 
 load-end-requires-2 : tie.Need-load-end-requires-2
 load-end-requires-2 c κs = search needs
@@ -44,12 +44,12 @@ load-spec =
     tie.close
     (tie.spec
     enum-told
-    sub-if1
+    add-if1
     load-end-requires
     returns
     load-whole-requires
     enum-told-2
-    sub-if2
+    add-if2
     load-end-requires-2
     returns-2
     load-whole-requires-2
