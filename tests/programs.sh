@@ -1,6 +1,6 @@
 #!/bin/sh
 # striplist and strippack, and ./strip over them, on good, damaged, short and overlong inputs: whole outputs are compared with what the
-# rules of docs/FORMAT.md give, worked out by hand.
+# rules of docs/FORMAT.md give, worked out by hand. Run, once both are built: sh tests/programs.sh
 set -u
 cd "$(dirname "$0")/.." || exit 2
 work=$(mktemp -d) || exit 2
@@ -13,7 +13,10 @@ fail() {
 
 # what a program writes on $work/in has to be $work/want
 same() { # PROGRAM NAME
-    tests/program "$1" <"$work/in" >"$work/out" 2>"$work/said" || fail "$1 ended badly: $2"
+    tests/program "$1" <"$work/in" >"$work/out" 2>"$work/said" || {
+        cat "$work/said"
+        fail "$1 ended badly: $2"
+    }
     [ ! -s "$work/said" ] || fail "$1 told something on standard error: $2"
     cmp -s "$work/out" "$work/want" || fail "$1 wrote something else than it should: $2"
     count=$((count + 1))
@@ -145,4 +148,13 @@ printf '\000' | ./strip list >"$work/out" 2>"$work/said" && fail './strip list o
 bad tail" ] || fail './strip list of a bad tail wrote something else'
 ./strip list <. >"$work/out" 2>"$work/said" && fail './strip list of a folder ended well'
 [ ! -s "$work/out" ] || fail './strip list of a folder wrote something'
+
+# ./strip over a kit that is another, and over one that does not prove crates that have changed since
+mkdir "$work/bin" && printf '#!/bin/sh\necho another\n' >"$work/bin/rt" && chmod +x "$work/bin/rt" || exit 2
+PATH=$work/bin:$PATH ./strip list <examples/night.strip >"$work/out" 2>"$work/said" && fail './strip over another kit ended well'
+grep -q "^strip: another kit: 'rt version' says 'another'" "$work/said" || fail './strip does not tell that the kit is another'
+printf '#!/bin/sh\n[ "$1" = check ] || exec "%s" "$@"\nexit 1\n' "$(command -v rt)" >"$work/bin/rt"
+touch -t 200001010000 target/checked-striplist || exit 2
+PATH=$work/bin:$PATH ./strip list <examples/night.strip >"$work/out" 2>"$work/said" && fail './strip ran a program whose crates are not proved'
+[ ! -s "$work/out" ] || fail './strip wrote something by a program whose crates are not proved'
 echo "programs: $count outputs are as they should be"
