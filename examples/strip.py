@@ -1,0 +1,128 @@
+#!/usr/bin/env python3
+"""The strip format without the library: a strip as text, and a text as a strip, by the words of docs/FORMAT.md alone.
+
+    python3 examples/strip.py list < examples/night.strip
+    python3 examples/strip.py pack < examples/night.txt > night.strip
+
+It writes what the programs striplist and strippack write, byte by byte. The status is 1 where a message stands there (`bad tail`,
+`bad line N`, `too long`), else 0. Bits are kept as text of 0 and 1, to be easy to follow rather than fast. Every number is a whole
+number of units: a float would spoil the last digits of a date.
+"""
+import re
+import sys
+
+MOST_BYTES = 65536
+HEADER = "star,date,limit,mag,err,filter"
+
+# No field holds a whole part of eight digits.
+WHOLE = "(0|[1-9][0-9]{0,6})"
+# The fields in their order: name, bits, decimals of a unit, and the number as text, its groups being the digits that count.
+FIELDS = (
+    ("star", 20, 0, WHOLE),
+    ("date", 38, 5, WHOLE + r"\.([0-9]{5})[0-9]{0,7}"),
+    ("limit", 1, 0, WHOLE),
+    ("magnitude", 16, 3, "(-?)" + WHOLE + r"\.([0-9]{3})"),
+    ("error", 10, 3, WHOLE + r"\.([0-9]{3})"),
+    ("filter", 4, 0, WHOLE),
+)
+RECORD_BITS = sum(width for _, width, _, _ in FIELDS)
+
+
+def least(name, width):
+    """the least number that the field holds; it holds 2^width numbers from there on"""
+    return -(2 ** (width - 1)) if name == "magnitude" else 0
+
+
+# ---- a strip as text
+
+
+def spelled(units, decimals):
+    """a number of units with its decimals; the minus is set apart, since // of a number below 0 would round it down"""
+    minus, size = ("-", -units) if units < 0 else ("", units)
+    if decimals == 0:
+        return str(size)
+    return "%s%d.%0*d" % (minus, size // 10**decimals, decimals, size % 10**decimals)
+
+
+def line_of(bits):
+    """the line of a record's 89 bits"""
+    words, place = [], 0
+    for name, width, decimals, _ in FIELDS:
+        units = int(bits[place : place + width], 2)
+        if units >= least(name, width) + 2**width:  # a number below 0, in two's complement
+            units -= 2**width
+        words.append(spelled(units, decimals))
+        place += width
+    return ",".join(words)
+
+
+def list_strip(strip):
+    """what striplist writes, and whether there is no message in it"""
+    if len(strip) > MOST_BYTES:
+        return b"too long\n", False
+    bits = "".join(format(byte, "08b") for byte in strip)
+    lines, place = [HEADER], 0
+    while len(bits) - place >= RECORD_BITS:
+        lines.append(line_of(bits[place : place + RECORD_BITS]))
+        place += RECORD_BITS
+    tail = bits[place:]
+    good = len(tail) < 8 and "1" not in tail
+    if not good:
+        lines.append("bad tail")
+    return "".join(line + "\n" for line in lines).encode(), good
+
+
+# ---- a text as a strip
+
+
+def bits_of(line):
+    """a record's 89 bits, from its line without the newline; None where the line breaks the rules"""
+    words = line.split(",")
+    if len(words) != len(FIELDS):
+        return None
+    bits = ""
+    for word, (name, width, _, shape) in zip(words, FIELDS):
+        found = re.fullmatch(shape, word)
+        if not found:
+            return None
+        units = int("".join(found.groups()))
+        if units == 0 and word.startswith("-"):
+            return None
+        if not 0 <= units - least(name, width) < 2**width:
+            return None
+        bits += format(units % 2**width, "0%db" % width)
+    return bits
+
+
+def pack_text(text):
+    """what strippack writes, and whether it is a strip, not a message"""
+    if len(text) > MOST_BYTES:
+        return b"too long\n", False
+    # one character a byte, whatever the byte; behind the last newline there has to be nothing
+    lines = text.decode("latin-1").split("\n")
+    unended = lines.pop()
+    bits = ""
+    for number, line in enumerate(lines, 1):
+        more = bits_of(line) if number > 1 else "" if line == HEADER else None
+        if more is None:
+            return b"bad line %d\n" % number, False
+        bits += more
+    if unended or not lines:
+        return b"bad line %d\n" % (len(lines) + 1), False
+    bits += "0" * (-len(bits) % 8)
+    return bytes(int(bits[k : k + 8], 2) for k in range(0, len(bits), 8)), True
+
+
+def main(words):
+    jobs = {"list": list_strip, "pack": pack_text}
+    if len(words) != 1 or words[0] not in jobs:
+        print(__doc__, file=sys.stderr)
+        return 2
+    # one byte more than allowed is enough to tell that there are too many
+    out, good = jobs[words[0]](sys.stdin.buffer.read(MOST_BYTES + 1))
+    sys.stdout.buffer.write(out)
+    return 0 if good else 1
+
+
+if __name__ == "__main__":
+    sys.exit(main(sys.argv[1:]))

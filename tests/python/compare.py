@@ -1,0 +1,199 @@
+"""Compares examples/strip.py with the proved programs: on every file of examples/, and on good, damaged, short and overlong strips and texts.
+
+The cases are the same in every run: their random numbers have a fixed seed. Run by tests/python.sh."""
+import collections
+import os
+import random
+import subprocess
+import sys
+
+sys.dont_write_bytecode = True
+ROOT = os.path.dirname(os.path.dirname(os.path.dirname(os.path.abspath(__file__))))
+sys.path.insert(0, os.path.join(ROOT, "examples"))
+import strip as example
+
+HEADER = b"star,date,limit,mag,err,filter\n"
+WORKED = b"5,2460523.64817,0,-1.440,0.012,3\n"
+WIDTHS = (20, 38, 1, 16, 10, 4)
+PROGRAM = {"list": "striplist", "pack": "strippack"}
+# what a run has to have met at least this often, so that no kind of case gets lost unnoticed
+LEAST = {"list done": 40, "list bad tail": 100, "list too long": 3, "pack done": 20, "pack bad line": 300, "pack too long": 3}
+rng = random.Random(89)
+
+
+# ---- strips
+
+
+def strip_of(bits):
+    """bytes of a text of 0 and 1, with zeros up to a byte"""
+    bits += "0" * (-len(bits) % 8)
+    return bytes(int(bits[k : k + 8], 2) for k in range(0, len(bits), 8))
+
+
+def random_bits(n):
+    return "".join(rng.choice("01") for _ in range(n))
+
+
+def extreme(width):
+    """the least and the largest pattern, those around the sign's change, or any"""
+    top = 1 << width - 1
+    return format(rng.choice((0, 1, top - 1, top, 2 * top - 1, rng.randrange(2 * top))) % (2 * top), "0%db" % width)
+
+
+def strips():
+    yield "each bit of a record alone", strip_of("".join(format(1 << k, "089b") for k in range(89)))
+    yield "extreme records", strip_of("".join(extreme(width) for _ in range(400) for width in WIDTHS))
+    for n in range(40):
+        good = strip_of(random_bits(89 * n))
+        yield "%d records" % n, good
+        yield "%d records and a zero byte" % n, good + b"\0"
+        yield "%d records and a byte" % n, good + bytes([rng.randrange(256)])
+        if n > 0:
+            yield "%d records without the last byte" % n, good[:-1]
+            yield "%d records with a bit changed" % n, flipped(good, rng.randrange(8 * len(good)))
+            yield "%d records with a late bit changed" % n, flipped(good, 8 * len(good) - 1 - rng.randrange(8))
+    for n in range(30):
+        yield "%d zero bytes" % n, bytes(n)
+        yield "%d bytes" % n, bytes(rng.choices(range(256), k=n))
+    for n in (65525, 65527, 65528, 65536):
+        yield "%d zero bytes" % n, bytes(n)
+    for n in (65535, 65536, 65537, 65538, 200000):
+        yield "%d bytes" % n, bytes(rng.choices(range(256), k=n))
+
+
+def flipped(data, k):
+    return data[: k // 8] + bytes([data[k // 8] ^ 128 >> k % 8]) + data[k // 8 + 1 :]
+
+
+# ---- texts
+
+
+def decimal(units, places):
+    digits = str(abs(units)).rjust(places + 1, "0")
+    return ("-" if units < 0 else "") + digits[:-places] + "." + digits[-places:]
+
+
+def good_line():
+    """a line of the grammar, its numbers often at their edges and its date with up to seven decimals too many"""
+    star, date, limit, magnitude, error, filter = (int(extreme(width), 2) for width in WIDTHS)
+    more = "".join(rng.choice("0123456789") for _ in range(rng.randrange(8)))
+    words = (star, decimal(date, 5) + more, limit, decimal(magnitude - 32768, 3), decimal(error, 3), filter)
+    return (",".join(map(str, words)) + "\n").encode()
+
+
+def damaged(text):
+    """one to three bytes left out, put in or changed"""
+    for _ in range(rng.choice((1, 1, 2, 3))):
+        k = rng.randrange(len(HEADER), len(text)) if rng.random() < 0.9 else rng.randrange(len(text))
+        byte = bytes([rng.choice(b"0123456789.,-+ \n\r\tex") if rng.random() < 0.9 else rng.randrange(256)])
+        text = text[:k] + rng.choice((b"", byte, byte + text[k : k + 1])) + text[k + 1 :]
+    return text
+
+
+def edges():
+    """the worked line with one number replaced, on each side of each rule for it"""
+    numbers = WORKED[:-1].split(b",")
+    wholes = b"0 1 2 9 15 16 00 01 1048575 1048576 10485750 -1 -0 +1 1. 1.0 1e3 0x1 4294967296 18446744073709551616".split()
+    decimals = b"0 0. .0 0.00 0.000 -0.000 -0.001 0.0000 00.000 1.023 1.024 32.767 32.768 -32.768 -32.769 -.500 0,500 1_0.000 1.-00".split()
+    dates = b"0.0000 0.00000 0.000000000000 0.0000000000000 2748779.06943 2748779.069439999999 2748779.06944 -0.00001 99999999.00000".split()
+    for i in range(6):
+        for word in wholes + decimals + dates + [b"", b" 1", b"1 ", b"9" * 5000, b"1" * 5000 + b".000", "٣".encode()]:
+            yield "number %d is %r" % (i + 1, word[:24]), HEADER + b",".join(numbers[:i] + [word] + numbers[i + 1 :]) + b"\n"
+
+
+def texts():
+    whole = HEADER + WORKED
+    for n in range(len(whole) + 1):
+        yield "the first %d bytes of a text" % n, whole[:n]
+    yield from edges()
+    for n in range(25):
+        good = HEADER + b"".join(good_line() for _ in range(n))
+        yield "%d lines" % n, good
+    for n in range(150):
+        yield "damaged text %d" % n, damaged(HEADER + b"".join(good_line() for _ in range(1 + n % 12)))
+    # 31 bytes of header, 2,518 lines of 26 bytes and one of 37: 65,536
+    full = HEADER + b"0,0.00000,0,0.000,0.000,0\n" * 2518 + b"1048575,0.0000000000,0,0.000,0.000,0\n"
+    yield "65,536 bytes of good text", full
+    yield "65,536 bytes, the last line bad", full[:-1] + b","
+    yield "65,537 bytes", full + b"\n"
+    yield "65,536 bytes and a line", full + WORKED
+    yield "200,000 newlines", b"\n" * 200000
+
+
+# ---- the comparison
+
+
+def fail(line):
+    print("python: " + line)
+    sys.exit(1)
+
+
+def shown(data):
+    return repr(data if len(data) <= 400 else data[:200] + b" .. " + data[-200:])
+
+
+def same(job, name, data, ours, theirs):
+    if ours != theirs:
+        print("input (%d bytes):    %s" % (len(data), shown(data)))
+        print("the program writes:  %s" % shown(ours))
+        print("the example writes:  %s" % shown(theirs))
+        fail("examples/strip.py %s differs: %s" % (job, name))
+
+
+def kind(job, out, good):
+    if good:
+        return job + " done"
+    return job + " " + next(word for word in ("bad tail", "bad line", "too long") if word.encode() in out[-16:])
+
+
+def by_function(job, name, data, words, met):
+    """the program's own output beside that of the example's function"""
+    run = subprocess.run(words, input=data, capture_output=True)
+    if run.returncode != 0 or run.stderr:
+        fail("%s ended badly: %s" % (PROGRAM[job], name))
+    out, good = (example.list_strip if job == "list" else example.pack_text)(data)
+    same(job, name, data, run.stdout, out)
+    met[kind(job, out, good)] += 1
+
+
+def by_command(job, name, data):
+    """./strip beside the example as a command: what they write, and their status"""
+    ours = subprocess.run(["./strip", job], input=data, capture_output=True)
+    theirs = subprocess.run([sys.executable, "examples/strip.py", job], input=data, capture_output=True)
+    message = ours.stderr if job == "pack" else b""
+    same(job, name, data, ours.stdout + message, theirs.stdout)
+    if (ours.returncode, b"") != (theirs.returncode, theirs.stderr):
+        fail("examples/strip.py %s ends with status %d, ./strip with %d: %s" % (job, theirs.returncode, ours.returncode, name))
+
+
+def main():
+    os.chdir(ROOT)
+    met = collections.Counter()
+    cases = {"list": list(strips()), "pack": list(texts())}
+    for name in sorted(os.listdir("examples")):
+        with open(os.path.join("examples", name), "rb") as file:
+            data = file.read()
+        cases["list"].append((name, data))
+        cases["pack"].append((name, data))
+    for job, program in PROGRAM.items():
+        words = subprocess.run(["tests/program", "--words", program], stdout=subprocess.PIPE, text=True)
+        if words.returncode != 0:
+            fail("%s can't be run" % program)
+        for name, data in cases[job]:
+            by_function(job, name, data, words.stdout.splitlines(), met)
+    for job, name, data in (
+        ("list", "the night", open("examples/night.strip", "rb").read()),
+        ("pack", "the night", open("examples/night.txt", "rb").read()),
+        ("list", "a lone zero byte", b"\0"),
+        ("pack", "an empty text", b""),
+        ("list", "65,537 bytes", bytes(65537)),
+        ("pack", "65,537 bytes", bytes(65537)),
+    ):
+        by_command(job, name, data)
+    for what, least in LEAST.items():
+        if met[what] < least:
+            fail("only %d cases of '%s', at least %d are wanted" % (met[what], what, least))
+    print("python: %d cases are the same (%s)" % (sum(met.values()), ", ".join("%s %d" % pair for pair in sorted(met.items()))))
+
+
+main()
