@@ -1,8 +1,6 @@
-/* Reads one record of a strip and prints its six numbers, then the line that a strip lists it as.
+/* Reads one record of a strip and prints its six numbers, then its line as ./strip lists it. On x86-64 Linux, from the repository's folder:
  *
- *     rt staticlib host
- *     cc examples/read_record.c -Iinclude target/staticlib/libhost.a -o read_record
- *     ./read_record
+ *     rt staticlib host && cc examples/read_record.c -Iinclude target/staticlib/libhost.a -o target/read_record && target/read_record
  */
 #include <stdio.h>
 

@@ -1,8 +1,11 @@
-/* Ruttedwhite: the fields of an observation strip, for a C program.
+/* Ruttedwhite: the fields of an observation strip, for a program in C (C89 or later) or C++.
  *
- * Build the library with `rt staticlib host` and link it (x86-64 Linux, gcc or clang):
+ * The kit proves the library and makes an archive of it, which needs no other library. From the repository's folder:
  *
- *     cc examples/read_record.c -Iinclude target/staticlib/libhost.a -o read_record
+ *     rt staticlib host
+ *     cc examples/read_record.c -Iinclude target/staticlib/libhost.a -o target/read_record
+ *
+ * The archive is for x86-64 Linux alone. Elsewhere read a strip by the words of docs/FORMAT.md, as examples/strip.py does.
  *
  * - The caller sees to it that `src` points to `len` bytes, and that nobody writes them during the call. NULL with length 0 is
  *   allowed.
@@ -37,7 +40,7 @@ extern "C" {
 #define STRIP_LITTLE 0
 #define STRIP_BIG 1
 
-/* The refusals. Where several apply, the lowest number is given. */
+/* The refusals: these four and no other. Where several apply, the lowest number is given. */
 #define STRIP_DONE 0     /* the field can be read */
 #define STRIP_TOO_LONG 1 /* the slice is longer than STRIP_MAX_BYTES bytes */
 #define STRIP_TOO_WIDE 3 /* the width is above 64 */
@@ -55,7 +58,8 @@ extern "C" {
  */
 uint32_t strip_refusal(uint32_t order, uint64_t place, uint32_t width, const uint8_t *src, size_t len);
 
-/* The field's value, with the same arguments; 0 where strip_refusal is not STRIP_DONE, and at width 0.
+/* The field's value, with the same arguments; 0 where strip_refusal is not STRIP_DONE, and at width 0. A field may well be 0: only
+ * strip_refusal tells whether it is there.
  *
  * Big, the field's first bit is its most significant; little, its least. The value is unsigned. A signed field of w bits,
  * w from 1 to 64, takes one line more, where m is (uint64_t)1 << (w - 1):
@@ -64,17 +68,28 @@ uint32_t strip_refusal(uint32_t order, uint64_t place, uint32_t width, const uin
  */
 uint64_t strip_value(uint32_t order, uint64_t place, uint32_t width, const uint8_t *src, size_t len);
 
-/* The record of a strip, order STRIP_BIG. Record i starts at bit STRIP_RECORD * i, and a field's place is counted from there.
+/* The record of a strip, order STRIP_BIG. Record i, counted from 0, starts at bit STRIP_RECORD * i, and a field's place is counted from
+ * there.
  *
  *     bit 0     star       20 bits
  *         20    date       38    Julian Date in 0.00001 day
- *         58    limit       1
+ *         58    limit       1    1: the star was fainter than the magnitude
  *         59    magnitude  16    signed, in 0.001
  *         75    error      10    in 0.001
  *         85    filter      4
  *         89    the next record
  *
- * At the strip's end fewer than 8 bits are left over, all 0. */
+ * A whole strip: `count` records, then a tail of `left` bits, which is good if they are fewer than 8 and all 0. A bad one shows that
+ * something was cut off or added.
+ *
+ *     uint64_t bits = 8 * (uint64_t)len, count = bits / STRIP_RECORD, left = bits % STRIP_RECORD, i;
+ *     if (strip_refusal(STRIP_BIG, 0, 0, src, len) != STRIP_DONE) ..      longer than STRIP_MAX_BYTES: not one field can be read
+ *     for (i = 0; i < count; i++) {
+ *         uint64_t star = strip_value(STRIP_BIG, STRIP_RECORD * i + STRIP_STAR_PLACE, STRIP_STAR_WIDTH, src, len);
+ *         ..
+ *     }
+ *     if (left >= 8 || strip_value(STRIP_BIG, bits - left, (uint32_t)left, src, len) != 0) ..      a bad tail
+ */
 #define STRIP_RECORD 89
 #define STRIP_STAR_PLACE 0
 #define STRIP_STAR_WIDTH 20

@@ -1,5 +1,5 @@
 #!/bin/sh
-# The C host: the test program and the example, run through the proved library, with what they print compared.
+# The C host: the test program and the example, run through the proved library, with what they print compared; and the header alone.
 # Run: sh tests/chost.sh
 set -u
 cd "$(dirname "$0")/.." || exit 2
@@ -30,4 +30,17 @@ filter 3
 5,2460523.64817,0,-1.440,0.012,3
 END
 cmp -s "$room/out" "$room/must" || fail "examples/read_record.c prints something else than it should"
+
+# the header alone, in C and in C++, where its functions have to be known as C's
+clang=$(tests/toolchain)/bin/clang || exit 1
+for language in 'c -std=c99' 'c -std=c17' 'c++ -std=c++98' 'c++ -std=c++20'; do
+    "$clang" --target=x86_64-unknown-linux-gnu -ffreestanding -nostdinc -Iinclude -Wall -Wextra -Werror -pedantic -fsyntax-only -x $language - <<'END' ||
+#include "ruttedwhite.h"
+#ifdef __cplusplus
+extern "C" uint32_t strip_refusal(uint32_t, uint64_t, uint32_t, const uint8_t *, size_t);
+extern "C" uint64_t strip_value(uint32_t, uint64_t, uint32_t, const uint8_t *, size_t);
+#endif
+END
+        fail "include/ruttedwhite.h is refused by clang -x $language"
+done
 echo "chost: the C host's answers are as they should be"
