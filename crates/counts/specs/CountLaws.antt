@@ -1,10 +1,10 @@
 -- Laws of refilling, taking and reading: the counts stay within the slice, and the place moves by the bits taken.
 use Prim.Native.Nat.{ℕ, _+_, _-_, _*_, _<_, _≤_}
-use mathlib.Core.Path.{_≡_, refl, ap, _∙_, subst}
+use mathlib.Core.Path.{_≡_, refl, sym, ap, _∙_, subst}
 use mathlib.Core.Bool.{Bool, true, false, _||_}
 use lib.Dec.{leb, ltb}
 use native.Mathlib.Omega.{arith}
-use borrow.Author.Tests.{ltb-false, leb-true, leb-false, lt-ltb, le-ltb, le-leb, lt-leb}
+use borrow.Author.Tests.{ltb-true, ltb-false, leb-true, leb-false, lt-ltb, le-ltb, le-leb, lt-leb}
 use Rattle.counts.specs.declared.Counts.{Counts}
 use Rattle.counts.specs.Counts.{place, unfetched, bitsLeft, Within, afterRefill, afterTake, refillIf, afterRead}
 
@@ -148,6 +148,33 @@ read-held len w k a b = rw (le-leb w 56 a, le-ltb (k .lookahead) w b)
 pub read-refilled : (len w : ℕ) (k : Counts) → w ≤ 56 → k .lookahead < w → afterTake w (afterRefill len k) ≡ afterRead len w k
 unfolding afterRead
 read-refilled len w k a b = rw (le-leb w 56 a, lt-ltb (k .lookahead) w b)
+
+-- a refill of 56 bits or more fetches nothing
+refill-full : {len : ℕ} {k : Counts} → Within len k → 56 ≤ k .lookahead → afterRefill len k ≡ k
+refill-full {len} {k} h a =
+    let e : afterRefill len k .offset ≡ k .offset = omega arith in
+    let f : afterRefill len k .lookahead ≡ k .lookahead = omega arith in
+    λ i. record { offset = e i; lookahead = f i }
+
+-- so a wide read starts as a read of 56 bits does
+wide-start : {len : ℕ} {k : Counts} → Within len k → (w : ℕ) → 57 ≤ w → refillIf (ltb (k .lookahead) 56) len k ≡ wide₁ len w k
+wide-start {len} {k} h w a = by (ltb (k .lookahead) 56) (ltb (k .lookahead) w) (ltb (unfetched len k) 8) refl refl
+  where
+    by : (t u v : Bool) → ltb (k .lookahead) 56 ≡ t → ltb (k .lookahead) w ≡ u → refillIf t len k ≡ refillIf (u || v) len k
+    by true true v p q = refl
+    by true false v p q = absurd (omega (arith, ltb-true (k .lookahead) 56 p, ltb-false (k .lookahead) w q))
+    by false true v p q = sym (refill-full h (ltb-false _ _ p))
+    by false false true p q = sym (refill-full h (ltb-false _ _ p))
+    by false false false p q = refl
+
+-- and it is one, a refill, and a read of the rest
+pub wide-again :
+    {len : ℕ} {k : Counts} → Within len k → (w : ℕ) → 57 ≤ w → w ≤ 64 → w ≤ bitsLeft len k →
+    afterRead len (w - 56) (afterRefill len (afterRead len 56 k)) ≡ afterRead len w k
+wide-again {len} {k} h w a b d =
+    let e : afterRefill len (afterRead len 56 k) ≡ wide₂ len w k =
+    ap (afterRefill len) (sym (short-counts len 56 k (omega arith)) ∙ ap (afterTake 56) (wide-start h w a)) in
+    ap (afterRead len (w - 56)) e ∙ sym (read-held len (w - 56) (wide₂ len w k) (omega arith) (wide-rest h w a b d)) ∙ wide-counts len w k a
 
 module _ {len : ℕ} {k : Counts} (h : Within len k) (w : ℕ) (a : w ≤ 64) (b : w ≤ bitsLeft len k) where
   pub read-moved : Moved len w k (afterRead len w k)

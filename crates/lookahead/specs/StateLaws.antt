@@ -24,7 +24,7 @@ use Rattle.lookahead.specs.State.{registerOf, countsOf, stateOf, belongs
 -- ---- states that belong to a slice
 
 -- both of two tests
-both : {a b : Bool} → (a && b) ≡ true → (a ≡ true) × (b ≡ true)
+pub both : {a b : Bool} → (a && b) ≡ true → (a ≡ true) × (b ≡ true)
 both {a = true} e = (refl, e)
 both {a = false} e = (e, cc)
 

@@ -6,25 +6,26 @@ use mathlib.Core.List.{List}
 use native.Mathlib.Omega.{arith}
 use lib.ListN.{length, getD}
 use lib.Dec.{eqb, ltb}
-use borrow.Author.Tests.{le-ltb, eq-eqb, eqb-true, eqb-false}
+use borrow.Author.Tests.{leb-true, le-ltb, eq-eqb, eqb-true, eqb-false}
 use Rattle.bits.specs.declared.Order.{Order}
 use Rattle.bits.specs.Refusals.{limit, done, tooWide, tooFew}
 use Rattle.bits.specs.RefusalLaws.{orElse-second}
-use Rattle.bits.specs.Field.{field}
+use Rattle.bits.specs.Field.{join, field}
+use Rattle.bits.specs.FieldLaws.{field-cut}
 use Rattle.bits.specs.JoinLaws.{join-zeros}
 use Rattle.bits.specs.Word.{held}
 use Rattle.counts.specs.declared.Counts.{Counts}
-use Rattle.counts.specs.Counts.{afterRead}
-use Rattle.counts.specs.CountLaws.{Moved, left-place, moved-left, refill-moved, take-moved, read-moved}
+use Rattle.counts.specs.Counts.{afterRefill, afterRead}
+use Rattle.counts.specs.CountLaws.{Moved, left-place, moved-left, moved-room, moved-then, refill-moved, take-moved, read-moved, wide-again}
 use Rattle.counts.specs.BytesLaws.{bytes-moved}
 use Rattle.lookahead.specs.declared.State.{State}
-use Rattle.lookahead.specs.State.{registerOf, Belongs, stateRefusal}
-use Rattle.lookahead.specs.StateLaws.{belongs-register, refusal-belongs, state-belongs}
+use Rattle.lookahead.specs.State.{registerOf, Belongs, stateRefusal, inside}
+use Rattle.lookahead.specs.StateLaws.{both, belongs-register, refusal-belongs, state-belongs, inside-is}
 use Rattle.octets.specs.Octets.{octets}
 use Rattle.octets.specs.OctetsLaws.{getD-octets}
 use Rattle.reader.specs.declared.Cursor.{Cursor}
 use Rattle.reader.specs.declared.ReadU64.{ReadU64}
-use Rattle.reader.specs.Cursor.{stateIn, countsIn, cursorAt, place, bitsLeft, cursorRefusal}
+use Rattle.reader.specs.Cursor.{stateIn, countsIn, cursorAt, place, bitsLeft, cursorRefusal, isInside}
 use Rattle.reader.specs.Answers.{newOf, readRefusal, readOf, bytesRefusal, bytesOf, bytesOut, manualRefusal, peekOf, consumeOf, refillOf}
 use Rattle.reader.specs.AnswerLaws.{if-refused, if-done, second-decides, test-refuses, test-passes, read-granted, manual-granted, bytes-granted}
 
@@ -118,6 +119,69 @@ module _ (o : Order) (s : List ℕ) (c : Cursor) (w : ℕ) where
 
     pub read-left : bitsLeft s ((readOf o s c w) .cursor) ≡ bitsLeft s c - w
     read-left = read-advanced .left
+
+-- a read that needs no other test is done
+pub inside-done : (o : Order) (s : List ℕ) (c : Cursor) (w : ℕ) → isInside o s c w ≡ true →
+    Belongs o s (stateIn c) × (inside (length s) (countsIn c) ≡ true) × (w ≤ 56) × (readRefusal o s c w ≡ done)
+unfolding isInside
+inside-done o s c w e =
+    let (narrow, e₁) = both e in
+    let (within, same) = both e₁ in
+    let (short, more, less, small) = inside-is (length s) (countsIn c) within in
+    let h : Belongs o s (stateIn c) =
+    record {
+      short = short;
+      within = record { fetched = omega (arith, more); small = small; behind = omega (arith, less, small) };
+      holds = eqb-true _ _ same;
+    } in
+    let a = leb-true _ _ narrow in
+    (h, within, a, read-enough o s c w (belongs-done h) (omega (arith, a)) (omega (arith, a, more)))
+
+-- a wide read is a read of 56 bits, a refill, and a read of the rest
+module _ (o : Order) (s : List ℕ) (c : Cursor) (w : ℕ) (a : 57 ≤ w) (e : readRefusal o s c w ≡ done) where
+  granted : Belongs o s (stateIn c) × (w ≤ 64) × (w ≤ bitsLeft s c)
+  granted = read-granted o s c w e
+
+  pub low-done : readRefusal o s c 56 ≡ done
+  low-done = let (h, b, d) = granted in read-enough o s c 56 (belongs-done h) (omega arith) (omega arith)
+
+  abbrev middle : Counts
+  middle = afterRead (length s) 56 (countsIn c)
+
+  -- where the rest is read from
+  abbrev pub rest-at : Cursor
+  rest-at = cursorAt o s (afterRefill (length s) middle)
+
+  pub middle-belongs : Belongs o s (stateIn (cursorAt o s middle))
+  middle-belongs =
+      let (h, b, d) = granted in
+      state-belongs o s (h .short) (read-moved (h .within) 56 (omega arith) (omega arith) .within)
+
+  rest-moved : Moved (length s) 56 (countsIn c) (countsIn rest-at)
+  rest-moved =
+      let (h, b, d) = granted in
+      moved-then (read-moved (h .within) 56 (omega arith) (omega arith)) (refill-moved (middle-belongs .within)) refl
+
+  pub rest-done : readRefusal o s rest-at (w - 56) ≡ done
+  rest-done =
+      let (h, b, d) = granted in
+      let l : 56 + (w - 56) ≤ bitsLeft s c = omega (arith, a, d) in
+      read-enough o s rest-at (w - 56) (belongs-done (state-belongs o s (h .short) (rest-moved .within))) (omega (arith, b))
+      (moved-room rest-moved (h .within) l)
+
+  pub wide-by-parts :
+      record {
+        refusal = done;
+        value = join o 56 (w - 56) (field o s (place c) 56) (field o s (place rest-at) (w - 56));
+        cursor = cursorAt o s (afterRead (length s) (w - 56) (countsIn rest-at));
+      }
+      ≡ readOf o s c w
+  wide-by-parts =
+      let (h, b, d) = granted in
+      let p : place rest-at ≡ place c + 56 = rest-moved .ahead in
+      let v = ap (λ (q : ℕ). join o 56 (w - 56) (field o s (place c) 56) (field o s q (w - 56))) p ∙ sym (field-cut o s (place c) 56 w (omega arith)) in
+      let k = wide-again (h .within) w a b d in
+      (λ i. record { refusal = done; value = v i; cursor = cursorAt o s (k i) }) ∙ sym (read-done o s c w e)
 
 -- ---- by place alone
 

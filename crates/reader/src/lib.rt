@@ -288,22 +288,16 @@ impl Cursor {
     pub fn read_bits(self, order: Order, src: &[u8], bits: u32) -> ReadU64
         ensures { λ r. ⌜ r ≡ readOf order (now (src .entry)) self bits ⌝ }
     {
-        let state = inner::state_in(self);
-        let refusal = inner::read_refusal(order, src, state, bits);
-        if refusal != refusals::DONE {
-            return ReadU64 {
-                refusal: refusal,
-                value: 0,
-                cursor: self,
-            };
+        let lent = &src[..src.len()];
+        if inner::is_inside(order, lent, self, bits) {
+            return inner::done_with(lookahead::inner::read_inside(
+                order,
+                lent,
+                inner::state_in(self),
+                bits,
+            ));
         }
-        let taken = lookahead::inner::read_bits(order, src, state, bits);
-        let next = taken.state;
-        ReadU64 {
-            refusal: refusals::DONE,
-            value: taken.value,
-            cursor: inner::cursor_with(next),
-        }
+        inner::read_out(order, lent, self, bits)
     }
 
     // A field of 0 to 64 bits as a signed number. Refusals 1, 2, 3 and 9.

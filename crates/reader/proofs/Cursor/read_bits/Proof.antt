@@ -1,60 +1,79 @@
--- `read_bits` meets its contract: a read that is not refused is that of the cursor's state. Assumes nothing.
-use mathlib.Core.Path.{_≡_, sym, ap, _∙_}
+-- `read_bits` meets its contract: all of a slice is the slice (`take-length`); a read inside it is done (`inside-done`), and any other is that of
+-- `read_out`. Assumes nothing.
+use mathlib.Core.Path.{_≡_, sym, ap, _∙_, subst}
+use Prim.Native.Nat.{ℕ, _≤_}
+use mathlib.Core.Bool.{true}
+use mathlib.Core.List.{List}
+use lib.ListN.{length, take}
+use lib.Seq.{take-length}
+use Rattle.bits.specs.Refusals.{done}
+use Rattle.lookahead.specs.declared.State.{State}
 use Rattle.lookahead.specs.declared.Taken.{Taken}
-use Rattle.lookahead.specs.State.{takenOf}
-use Rattle.reader.specs.declared.Cursor.{Cursor}
-use Rattle.reader.specs.Cursor.{cursorWith, countsIn}
+use Rattle.lookahead.specs.State.{Belongs, countsOf, takenOf, inside}
+use Rattle.reader.specs.Cursor.{stateIn, cursorWith, countsIn}
 use Rattle.reader.specs.Answers.{readRefusal, readOf}
-use Rattle.reader.specs.AnswerLaws.{of-cursor, if-refused, if-done, read-granted}
+use Rattle.reader.specs.ReadLaws.{inside-done, read-done}
 use borrow.Author.Needs.{needs}
 use Rattle.reader.proofs.Cursor.read_bits.Statement.{statement}
 use Rattle.reader.proofs.Cursor.read_bits.Tie as tie
 
+slice-aggregate-lent : tie.Need-slice-aggregate-lent
+slice-aggregate-lent c = ap length (sym (take-length (c .before .before .args .src .now)))
+
+is-inside-requires : tie.Need-is-inside-requires
+is-inside-requires c κs = search needs
+
 state-in-requires : tie.Need-state-in-requires
 state-in-requires c κs = search needs
 
-read-refusal-requires : tie.Need-read-refusal-requires
-read-refusal-requires c κs = search needs
+-- a read that is_inside lets pass is done
+granted :
+    (c : tie.After-state-in) → let a = c .before .before .before .before .before .args in
+    let s = take (length (a .src .now)) (a .src .now) in
+    Belongs (a .order) s (stateIn (a .self)) × (inside (length s) (countsIn (a .self)) ≡ true) × (a .bits ≤ 56) × (readRefusal (a .order) s (a .self) (a .bits) ≡ done)
+granted c = inside-done _ _ _ _ (sym (c .before .before .is-inside .ensures) ∙ c .before .if1 .taken)
 
--- the number that the code finds is the refusal of the cursor
-told :
-    (c : tie.After-read-refusal) →
-    let a = c .before .before .before .args in c .read-refusal .result ≡ readRefusal (a .order) (a .src .now) (a .self) (a .bits)
-told c =
-    let a = c .before .before .before .args in
-    of-cursor (λ (x : Cursor). readRefusal (a .order) (a .src .now) x (a .bits)) (c .read-refusal .ensures) (c .before .state-in .ensures)
+read-inside-requires : tie.Need-read-inside-requires
+read-inside-requires c κs =
+    let a = c .before .before .before .before .before .args in
+    let s = take (length (a .src .now)) (a .src .now) in
+    let (h, within, narrow, _) = granted c in (
+      subst (Belongs (a .order) s) (sym (c .state-in .ensures)) h,
+      subst (λ (t : State). inside (length s) (countsOf t) ≡ true) (sym (c .state-in .ensures)) within,
+      narrow,
+    )
+
+done-with-requires : tie.Need-done-with-requires
+done-with-requires c κs = search needs
 
 returns : tie.Need-returns
-unfolding readOf
 returns c =
-    let e = told (c .before) in
-    (λ i. record { refusal = e i; value = 0; cursor = c .before .before .before .before .args .self }) ∙ if-refused e _ _ (c .if1 .taken)
+    let c₁ = c .before .before in
+    let a = c₁ .before .before .before .before .before .args in
+    let s = take (length (a .src .now)) (a .src .now) in
+    c .done-with .ensures
+    ∙ ap (λ (x : Taken). record { refusal = done; value = x .value; cursor = cursorWith (x .state) })
+    (c .before .read-inside .ensures ∙ ap (λ (t : State). takenOf (a .order) s (countsOf t) (a .bits)) (c₁ .state-in .ensures))
+    ∙ sym (read-done (a .order) s (a .self) (a .bits) (granted c₁ .3))
+    ∙ ap (λ (l : List ℕ). readOf (a .order) l (a .self) (a .bits)) (take-length (a .src .now))
 
-read-bits-requires : tie.Need-read-bits-requires
-read-bits-requires c κs =
-    let t = c .before .before .state-in .result in
-    read-granted _ _ (cursorWith t) _ (sym (c .before .read-refusal .ensures) ∙ c .if1 .left)
-
-cursor-with-requires : tie.Need-cursor-with-requires
-cursor-with-requires c κs = search needs
+read-out-requires : tie.Need-read-out-requires
+read-out-requires c κs = search needs
 
 returns-2 : tie.Need-returns-2
-unfolding readOf
 returns-2 c =
-    let a = c .before .before .before .before .before .before .before .args in
-    let t : Cursor → Taken = λ x. takenOf (a .order) (a .src .now) (countsIn x) (a .bits) in
-    let r = of-cursor t (c .before .before .read-bits .ensures) (c .before .before .before .before .before .state-in .ensures) in
-    let k = c .cursor-with .ensures ∙ ap (λ (x : Taken). cursorWith (x .state)) r in
-    (λ i. record { refusal = 0; value = r i .value; cursor = k i })
-    ∙ if-done (told (c .before .before .before .before)) _ _ (c .before .before .before .if1 .left)
+    let a = c .before .before .before .before .before .args in
+    c .read-out .ensures ∙ ap (λ (l : List ℕ). readOf (a .order) l (a .self) (a .bits)) (take-length (a .src .now))
 
 pub read-bits-spec : {M : Type 1} → statement M
 read-bits-spec =
     tie.close
     (tie.spec
+    slice-aggregate-lent
+    is-inside-requires
     state-in-requires
-    read-refusal-requires
+    read-inside-requires
+    done-with-requires
     returns
-    read-bits-requires
-    cursor-with-requires
+    read-out-requires
     returns-2)
