@@ -3,13 +3,10 @@ use bits::Order;
 use reader::Cursor;
 use record::Record;
 use writer::Writer;
-ghost use Prim.Native.Nat.{_≤_};
 
 // The calls that read the slice, by number: 0 to 11 the cursor's, 12 to 19 the others.
 #[no_mangle]
-pub extern "C" fn limits_read(call: u32, src: &[u8]) -> u32
-    ensures { λ r. ⌜ r ≤ 4294967295 ⌝ }
-{
+pub extern "C" fn limits_read(call: u32, src: &[u8]) -> u32 {
     if call < 12 {
         return read_call(call, src);
     }
@@ -18,9 +15,7 @@ pub extern "C" fn limits_read(call: u32, src: &[u8]) -> u32
 
 // The calls that write the slice, by number: 0 to 6 the writer's, 7 to 11 the others.
 #[no_mangle]
-pub extern "C" fn limits_write(call: u32, out: &mut [u8]) -> u32
-    ensures { λ r. ⌜ r ≤ 4294967295 ⌝ }
-{
+pub extern "C" fn limits_write(call: u32, out: &mut [u8]) -> u32 {
     if call < 7 {
         return write_call(call, out);
     }
