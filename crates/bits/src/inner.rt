@@ -1,5 +1,5 @@
-// Operations on 64 bits for proved callers. Beside them only whole loads and stores, and the joining of two neighbour bytes, look at
-// the order.
+// Operations on 64 bits for proved callers. Beside them only loads and stores, and the joining of two neighbour bytes, look at the
+// order.
 use crate::Order;
 ghost use mathlib.Core.Path.{_≡_};
 ghost use Prim.Native.Nat.{_+_, _-_, _^_, _<_, _≤_};

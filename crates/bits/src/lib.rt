@@ -1,4 +1,4 @@
-// The order of bits, the refusal numbers, and the operations on 64 bits that alone look at the order.
+// The order of bits, the refusal numbers, and the operations on 64 bits.
 pub mod inner;
 pub mod refusals;
 
