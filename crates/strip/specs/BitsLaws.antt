@@ -2,7 +2,7 @@
 use mathlib.Core.Path.{_≡_, sym, ap, _∙_}
 use Prim.Native.Nat.{ℕ, _+_, _*_, _/_, _%_, _^_, _<_}
 use native.Mathlib.Omega.{arith}
-use mathlib.Core.List.{List}
+use mathlib.Core.List.{List, [], _∷_}
 use Rattle.bits.specs.declared.Order.{Order}
 use Rattle.bits.specs.declared.Order.the-variants.{Big}
 use Rattle.bits.specs.Field.{join, field}
@@ -14,6 +14,7 @@ use Rattle.sign.specs.SignedLaws.{pattern-lt, pattern-signed, signed-pattern}
 use Rattle.record.specs.declared.Record.{Record}
 use Rattle.record.specs.Record.{Fits, recordBits}
 use Rattle.strip.specs.Bits.{bitsOf, recordAt}
+use Rattle.strip.specs.Strip.{numbersOf}
 
 -- ---- fields of a field
 
@@ -55,6 +56,18 @@ module _ (s : List ℕ) (p : ℕ) where
   filter-in =
       let e : p + 58 + 27 ≡ p + 85 = omega arith in
       field-rest Big s (p + 58) 27 4 ∙ ap (λ (q : ℕ). field Big s q 4) e
+
+-- a record's numbers, as they are stored: out of its three parts
+pub numbers-in :
+    (s : List ℕ) (p : ℕ) {star date rest : ℕ} → star ≡ field Big s p 20 → date ≡ field Big s (p + 20) 38 → rest ≡ field Big s (p + 58) 31 →
+    _≡_ {A = List ℕ} (star ∷ date ∷ rest / 2 ^ 30 ∷ pattern 64 (signed 16 (rest / 2 ^ 14 % 2 ^ 16)) ∷ rest / 2 ^ 4 % 2 ^ 10 ∷ rest % 2 ^ 4 ∷ []) (numbersOf (recordAt s p))
+unfolding recordAt
+numbers-in s p star date rest =
+    let limit = ap (λ (n : ℕ). n / 2 ^ 30) rest ∙ limit-in s p in
+    let magnitude = ap (λ (n : ℕ). pattern 64 (signed 16 (n / 2 ^ 14 % 2 ^ 16))) rest ∙ ap (λ (n : ℕ). pattern 64 (signed 16 n)) (magnitude-in s p) in
+    let error = ap (λ (n : ℕ). n / 2 ^ 4 % 2 ^ 10) rest ∙ error-in s p in
+    let filter = ap (λ (n : ℕ). n % 2 ^ 4) rest ∙ filter-in s p in
+    λ i. star i ∷ date i ∷ limit i ∷ magnitude i ∷ error i ∷ filter i ∷ []
 
 -- ---- the bits of a record
 

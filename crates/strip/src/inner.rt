@@ -8,7 +8,7 @@ use writer::Writer;
 ghost use mathlib.Core.Path.{_≡_};
 ghost use mathlib.Core.Bool.{true};
 ghost use mathlib.Core.List.{[], _∷_};
-ghost use Prim.Native.Nat.{_+_, _*_, _%_, _^_, _<_, _≤_};
+ghost use Prim.Native.Nat.{_+_, _*_, _/_, _%_, _^_, _<_, _≤_};
 ghost use lib.ListN.{length};
 ghost use lib.Seq.{sets};
 ghost use lib.Dec.{ltb};
@@ -244,18 +244,35 @@ fn widened(magnitude: u64) -> u64
     magnitude + 0xffff_ffff_ffff_0000
 }
 
-// Stores the six numbers of the record at a place.
-fn put_numbers_at(src: &[u8], place: usize, numbers: &mut [u64], at: usize)
-    requires { ⌜ (place + recordBits ≤ 8 * length (now src)) × (length (now src) ≤ limit) × (at + 6 ≤ length (now numbers)) ⌝ }
-    ensures { λ _. ⌜ now (numbers .exit) ≡ sets (now (numbers .entry)) at (numbersOf (recordAt (now (src .entry)) place)) ⌝ }
+// Stores a record's six numbers, the last four out of one of 31 bits.
+fn put_parts(numbers: &mut [u64], at: usize, star: u64, date: u64, rest: u64)
+    requires { ⌜ at + 6 ≤ length (now numbers) ⌝ }
+    ensures { λ _. ⌜ now (numbers .exit) ≡ sets (now (numbers .entry)) at (star ∷ date ∷ rest / 2 ^ 30 ∷ pattern 64 (signed 16 (rest / 2 ^ 14 % 2 ^ 16)) ∷ rest / 2 ^ 4 % 2 ^ 10 ∷ rest % 2 ^ 4 ∷ []) ⌝ }
 {
-    let rest = words::inner::short_field(Order::Big, src, place + 58, 31);
-    numbers[at] = words::inner::short_field(Order::Big, src, place, 20);
-    numbers[at + 1] = words::inner::short_field(Order::Big, src, place + 20, 38);
+    numbers[at] = star;
+    numbers[at + 1] = date;
     numbers[at + 2] = rest / 0x4000_0000;
     numbers[at + 3] = widened(rest / 0x4000 % 0x1_0000);
     numbers[at + 4] = rest / 16 % 0x400;
     numbers[at + 5] = rest % 16;
+}
+
+// Stores the six numbers of the record at a place: if 64 bits are there from its last 31 on, no load tests for the end.
+fn put_numbers_at(src: &[u8], place: usize, numbers: &mut [u64], at: usize)
+    requires { ⌜ (place + recordBits ≤ 8 * length (now src)) × (length (now src) ≤ limit) × (at + 6 ≤ length (now numbers)) ⌝ }
+    ensures { λ _. ⌜ now (numbers .exit) ≡ sets (now (numbers .entry)) at (numbersOf (recordAt (now (src .entry)) place)) ⌝ }
+{
+    if place + 122 <= 8 * src.len() {
+        let star = words::inner::whole_field(Order::Big, src, place, 20);
+        let date = words::inner::whole_field(Order::Big, src, place + 20, 38);
+        let rest = words::inner::whole_field(Order::Big, src, place + 58, 31);
+        put_parts(numbers, at, star, date, rest);
+    } else {
+        let star = words::inner::short_field(Order::Big, src, place, 20);
+        let date = words::inner::short_field(Order::Big, src, place + 20, 38);
+        let rest = words::inner::short_field(Order::Big, src, place + 58, 31);
+        put_parts(numbers, at, star, date, rest);
+    }
 }
 
 // Stores the numbers of the first records of a strip.
