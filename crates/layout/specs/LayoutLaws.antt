@@ -7,7 +7,7 @@ use native.Mathlib.Omega.{arith}
 use lib.ListN.{length, drop, getD}
 use lib.Seq.{drop-cons, drop-length}
 use borrow.Author.Tests.{leb-true, eqb-true, le-leb, lt-leb, eq-eqb, ne-eqb}
-use Rattle.layout.specs.Layout.{Item, item, itemsOf, bytesOf, goodItem, goodItems, areLayout, isLayout}
+use Rattle.layout.specs.Layout.{Item, item, itemsOf, bytesOf, goodItem, goodItems, areLayout, isLayout, bitsOf}
 use Rattle.layout.specs.TestLaws.{both, both-true}
 
 -- ---- lengths
@@ -35,6 +35,12 @@ good-of f fs e =
 pub good-cons : (f : Item) (fs : List Item) → f .kind ≤ 1 → f .width ≤ 64 → goodItems fs ≡ true → goodItems (f ∷ fs) ≡ true
 unfolding goodItems
 good-cons f fs h k e = both-true (both-true (le-leb _ _ h) (le-leb _ _ k)) e
+
+-- no field has more than 64 bits
+pub bits-most : (fs : List Item) → goodItems fs ≡ true → bitsOf fs ≤ 64 * length fs
+unfolding bitsOf
+bits-most [] e = omega arith
+bits-most (f ∷ fs) e = let (kind, width, others) = good-of f fs e in omega (arith, bits-most fs others)
 
 -- ---- layouts
 

@@ -9,6 +9,7 @@ ghost use Prim.Native.Nat.{_+_, _-_, _*_, _^_, _<_, _≤_};
 ghost use lib.ListN.{length};
 ghost use lib.Seq.{sets};
 ghost use Rattle.bits.specs.Refusals.{limit};
+ghost use Rattle.bits.specs.Field.{field};
 ghost use Rattle.bits.specs.Signed.{signed, pattern as pattern·of};
 ghost use Rattle.layout.specs.Layout.{itemsOf, bytesOf, isLayout, bitsOf};
 ghost use Rattle.layout.specs.Plan.{ends, code};
@@ -103,19 +104,37 @@ fn pattern(kind: u8, w: u32, v: u64) -> u64
     if kind == 1 { spread(w, v) } else { v }
 }
 
+// A field by its place; `inside` tells that 64 bits are there from its end on, and no load tests for the end.
+fn field_in(inside: bool, order: Order, src: &[u8], place: usize, width: u32) -> u64
+    requires { ⌜ (width ≤ 64) × (place + width ≤ 8 * length (now src)) × (length (now src) ≤ limit) × (inside ≡ true → place + width + 64 ≤ 8 * length (now src)) ⌝ }
+    ensures { λ r. ⌜ r ≡ field order (now (src .entry)) place width ⌝ }
+{
+    if inside {
+        if width <= 56 {
+            return words::inner::whole_field(order, src, place, width);
+        }
+        let more = width - 56;
+        let low = words::inner::whole_field(order, src, place, 56);
+        let high = words::inner::whole_field(order, src, place + 56, more);
+        return bits::inner::join_bits(order, 56, more, low, high);
+    }
+    words::inner::field_at(order, src, place, width)
+}
+
 // Reads every field of a layout from a place on, each by its place; the answer is the place where the last field ends.
 pub fn fields(order: Order, src: &[u8], layout: &[u8], place: usize, results: &mut [u64]) -> usize
     requires { ⌜ (length (now src) ≤ limit) × (isLayout (now layout) ≡ true) × (place + bitsOf (itemsOf (now layout)) ≤ 8 * length (now src)) × (length (itemsOf (now layout)) ≤ length (now results)) ⌝ }
     ensures answer { λ r. ⌜ r ≡ place + bitsOf (itemsOf (now (layout .entry))) ⌝ }
     ensures memory { λ _. ⌜ now (results .exit) ≡ sets (now (results .entry)) 0 (valuesOf order (now (src .entry)) place (itemsOf (now (layout .entry)))) ⌝ }
 {
+    let inside = place + 32 * layout.len() + 64 <= 8 * src.len();
     let mut at = place;
     let mut i: usize = 0;
     let mut j: usize = 0;
     while i < layout.len() {
         let kind = layout[i];
         let w = layout[i + 1] as u32;
-        results[j] = pattern(kind, w, words::inner::field_at(order, src, at, w));
+        results[j] = pattern(kind, w, field_in(inside, order, src, at, w));
         at += w as usize;
         i += 2;
         j += 1;

@@ -1,27 +1,53 @@
 -- `fields` meets its contract: at each field, what the others will give gives what all of them give. Assumes nothing.
-use Prim.Native.Nat.{_+_, _-_, _%_, _<_, _≤_}
+use Prim.Native.Nat.{_+_, _-_, _*_, _%_, _<_, _≤_}
 use mathlib.Core.Path.{_≡_, refl}
+use mathlib.Core.Bool.{true}
 use mathlib.Core.List.{[], _∷_}
 use native.Mathlib.Omega.{arith}
 use lib.ListN.{length, drop, getD}
 use Rattle.bits.specs.FieldLaws.{field-lt}
-use Rattle.layout.specs.Layout.{item, itemsOf}
-use Rattle.layout.specs.LayoutLaws.{is-layout-of, length-items, items-at, items-end}
+use borrow.Author.Tests.{leb-true}
+use Rattle.layout.specs.Layout.{item, itemsOf, bitsOf}
+use Rattle.layout.specs.LayoutLaws.{is-layout-of, length-items, bits-most, items-at, items-end}
 use Rattle.plan.proofs.Reading.{Left, start, width, inside, room, next, finish}
 use Rattle.plan.proofs.inner.fields.Statement.{statement}
 use Rattle.plan.proofs.inner.fields.Tie as tie
 
 abbrev Inv-loop : tie.InvT-loop
-Inv-loop order src layout place results₀ at₀ i₀ j₀ results at i j =
-    (i ≤ length layout) × (i % 2 ≡ 0) × Left order src place (itemsOf layout) results₀ (itemsOf (drop i layout)) at j results
+Inv-loop order src layout place results₀ inside at₀ i₀ j₀ results at i j =
+    (i ≤ length layout) × (i % 2 ≡ 0) × (inside ≡ true → place + bitsOf (itemsOf layout) + 64 ≤ 8 * length src)
+    × Left order src place (itemsOf layout) results₀ (itemsOf (drop i layout)) at j results
 
 abbrev μ-loop : tie.MeasureT-loop
-μ-loop order src layout place results₀ at₀ i₀ j₀ results at i j = length layout - i
+μ-loop order src layout place results₀ inside at₀ i₀ j₀ results at i j = length layout - i
+
+mul-inside : tie.Need-mul-inside Inv-loop μ-loop
+mul-inside c = omega (arith, is-layout-of _ (c .before .before .before .pre .1) .1)
+
+add-inside : tie.Need-add-inside Inv-loop μ-loop
+add-inside c = omega (arith, is-layout-of _ (c .before .before .before .pre .1) .1)
+
+add-inside-2 : tie.Need-add-inside-2 Inv-loop μ-loop
+add-inside-2 c = omega (arith, is-layout-of _ (c .before .before .before .pre .1) .1)
+
+mul-inside-2 : tie.Need-mul-inside-2 Inv-loop μ-loop
+mul-inside-2 c = omega arith
 
 loop-holds : tie.Need-loop-holds Inv-loop μ-loop
 loop-holds c =
     let s = c .before .before .before in
-    (omega arith, refl, start (is-layout-of _ (s .pre .1) .2))
+    let (even, short, good) = is-layout-of (s .args .layout .now) (s .pre .1) in (
+      omega arith,
+      refl,
+      λ t.
+          omega (
+            arith,
+            leb-true (s .args .place + 32 * length (s .args .layout .now) + 64) (8 * length (s .args .src .now)) t,
+            bits-most (itemsOf (s .args .layout .now)) good,
+            length-items (s .args .layout .now) even,
+          ),
+      start good,
+    )
 
 -- the bytes come in pairs
 pair : (c : tie.In-loop Inv-loop μ-loop) → c .before .loop .i + 1 < length (c .before .before .before .before .before .args .layout .now)
@@ -33,7 +59,7 @@ here : (c : tie.In-loop Inv-loop μ-loop) →
     let l = c .before .loop in
     Left (a .order) (a .src .now) (a .place) (itemsOf (a .layout .now)) (a .results .now)
     (item (getD (a .layout .now) (l .i) 0) (getD (a .layout .now) (l .i + 1) 0) ∷ itemsOf (drop (l .i + 2) (a .layout .now))) (l .at) (l .j) (l .results)
-here c = rw (items-at _ _ (pair c)) at (c .before .loop .inv .2)
+here c = rw (items-at _ _ (pair c)) at (c .before .loop .inv .3)
 
 shared-slice-read-kind : tie.Need-shared-slice-read-kind Inv-loop μ-loop
 shared-slice-read-kind c = omega arith
@@ -47,15 +73,15 @@ shared-slice-read-w c = pair (c .before .before)
 cast-w : tie.Need-cast-w Inv-loop μ-loop
 cast-w c = omega (arith, width (here (c .before .before)))
 
-field-at-requires : tie.Need-field-at-requires Inv-loop μ-loop
-field-at-requires c κs =
+field-in-requires : tie.Need-field-in-requires Inv-loop μ-loop
+field-in-requires c κs =
     let left = here (c .before .before) in
     let s = c .before .before .before .before .before .before .before in
-    (width left, omega (arith, inside left, s .pre .2), s .pre .0)
+    (width left, omega (arith, inside left, s .pre .2), s .pre .0, λ t. omega (arith, inside left, c .before .before .before .loop .inv .2 t))
 
 pattern-requires : tie.Need-pattern-requires Inv-loop μ-loop
 pattern-requires c κs =
-    (width (here (c .before .before .before)), rw (c .field-at .ensures) (field-lt _ _ _ _))
+    (width (here (c .before .before .before)), rw (c .field-in .ensures) (field-lt _ _ _ _))
 
 -- there are at most 64 fields
 few : (c : tie.After-pattern Inv-loop μ-loop) → c .before .before .before .before .before .loop .j < 64
@@ -92,7 +118,7 @@ loop-less c = omega (arith, pair (c .before .before .before .before))
 loop-again : tie.Need-loop-again Inv-loop μ-loop
 loop-again c =
     let k = c .before .before .before .before in
-    (omega (arith, pair k), omega arith, rw (c .pattern .ensures, c .before .field-at .ensures) (next (here k)))
+    (omega (arith, pair k), omega arith, k .before .loop .inv .2, rw (c .pattern .ensures, c .before .field-in .ensures) (next (here k)))
 
 -- every field is read
 all : (c : tie.After-loop Inv-loop μ-loop) →
@@ -101,10 +127,10 @@ all : (c : tie.After-loop Inv-loop μ-loop) →
     Left (a .order) (a .src .now) (a .place) (itemsOf (a .layout .now)) (a .results .now) [] (l .at) (l .j) (l .results)
 all c =
     let e : c .before .loop .i ≡ length (c .before .before .before .before .before .args .layout .now) = omega arith in
-    rw (items-end _ _ e) at (c .before .loop .inv .2)
+    rw (items-end _ _ e) at (c .before .loop .inv .3)
 
 same-length : tie.Need-same-length Inv-loop μ-loop
-same-length c = c .before .loop .inv .2 .size
+same-length c = c .before .loop .inv .3 .size
 
 returns : tie.Need-returns Inv-loop μ-loop
 returns c = finish (all c)
@@ -115,12 +141,16 @@ fields-spec =
     (tie.spec
     Inv-loop
     μ-loop
+    mul-inside
+    add-inside
+    add-inside-2
+    mul-inside-2
     loop-holds
     shared-slice-read-kind
     add-w
     shared-slice-read-w
     cast-w
-    field-at-requires
+    field-in-requires
     pattern-requires
     mul-results
     slice-write-results
