@@ -15,3 +15,5 @@ pub mod AnswerLaws
 pub mod StepLaws
 pub mod SizeLaws
 pub mod Theorems
+pub mod Take
+pub mod TakeLaws

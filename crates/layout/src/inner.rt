@@ -1,14 +1,15 @@
 // Compiling layouts and checking plans, for proved callers.
 use bits::refusals;
 ghost use mathlib.Core.Path.{_≡_};
-ghost use mathlib.Core.Bool.{true};
+ghost use mathlib.Core.Bool.{true, cond};
 ghost use mathlib.Core.List.{[], _∷_};
-ghost use Prim.Native.Nat.{_+_, _%_, _≤_};
+ghost use Prim.Native.Nat.{_+_, _-_, _%_, _<_, _≤_};
 ghost use lib.ListN.{length, drop, set};
 ghost use lib.Seq.{sets};
 ghost use Rattle.layout.specs.Layout.{item, itemsOf, goodItem, goodItems, isLayout, bitsOf};
 ghost use Rattle.layout.specs.Plan.{count as count·of, ends as ends·of, takes, refilled, decode};
 ghost use Rattle.layout.specs.Check.{fits as fits·of, endsWide, atField, inWide, isPlan};
+ghost use Rattle.layout.specs.Take.{TakenAt};
 ghost use Rattle.layout.specs.Answers.{planOf, compileRefusal};
 ghost use Rattle.layout.specs.Known.{after, known, one};
 
@@ -25,7 +26,7 @@ pub fn count(b: u8) -> u32
 pub fn ends(b: u8) -> bool
     ensures { λ r. ⌜ r ≡ ends·of b ⌝ }
 {
-    if b / 64 >= 1 { b / 64 <= 2 } else { false }
+    if b >= 64 { b < 192 } else { false }
 }
 
 // ---- the plan check
@@ -49,61 +50,91 @@ fn ends_wide(b: u8) -> bool
     }
 }
 
-// At a field: step i on, with a known lookahead g and n more fields allowed; after a refill the next take has to reach low bits.
-fn at_field(p: &[u8], i: usize, low: u32, g: u32, n: u32) -> bool
-    requires { ⌜ (i ≤ length (now p)) × (g ≤ 56) ⌝ }
-    ensures { λ r. ⌜ r ≡ atField low g n (drop i (now (p .entry))) ⌝ }
+// A take: where the step after it is, the take itself, or 0 if there is none that fits, and the known lookahead that it leaves.
+pub struct Take {
+    pub next: usize,
+    pub step: u8,
+    pub left: u32,
+}
+
+// The take b, if it is of at least low bits and at most g.
+fn taken(next: usize, b: u8, low: u32, g: u32) -> Take
+    ensures { λ r. ⌜ r ≡ record { next = next; step = cond (fits·of low g b) b 0; left = cond (fits·of low g b) (g - count·of b) 0 } ⌝ }
 {
-    if i == p.len() {
-        return low == 0;
+    if fits(b, low, g) {
+        return Take {
+            next: next,
+            step: b,
+            left: g - count(b),
+        };
     }
+    Take {
+        next: next,
+        step: 0,
+        left: 0,
+    }
+}
+
+// The take at step i, with a known lookahead g: that step, or the one behind a refill, which has to be of more than g bits.
+fn take_at(p: &[u8], i: usize, g: u32) -> Take
+    requires { ⌜ (i < length (now p)) × (g ≤ 56) ⌝ }
+    ensures { λ r. ⌜ TakenAt (now (p .entry)) i g r ⌝ }
+{
     let b = p[i];
     if b == 0 {
-        if low == 0 {
-            return at_field(p, i + 1, g + 1, 56, n);
+        if i + 1 < p.len() {
+            return taken(i + 2, p[i + 1], g + 1, 56);
         }
-        return false;
+        return Take {
+            next: i + 1,
+            step: 0,
+            left: 0,
+        };
     }
-    if fits(b, low, g) {
-        let left = g - count(b);
-        if b == 248 {
-            return in_wide(p, i + 1, 0, left, n);
-        }
-        if ends(b) {
+    taken(i + 1, b, 0, g)
+}
+
+// At a field: from a step on, with a known lookahead and so many more fields allowed; it goes on as long as no wide field starts.
+fn at_field(p: &[u8], start: usize, known: u32, more: u32) -> bool
+    requires { ⌜ (start ≤ length (now p)) × (known ≤ 56) ⌝ }
+    ensures { λ r. ⌜ r ≡ atField 0 known more (drop start (now (p .entry))) ⌝ }
+{
+    let mut i = start;
+    let mut g = known;
+    let mut n = more;
+    while i < p.len() {
+        let t = take_at(p, i, g);
+        if ends(t.step) {
             if n == 0 {
                 return false;
             }
-            return at_field(p, i + 1, 0, left, n - 1);
+            i = t.next;
+            g = t.left;
+            n -= 1;
+        } else {
+            if t.step == 248 {
+                return in_wide(p, t.next, t.left, n);
+            }
+            return false;
         }
-        return false;
     }
-    false
+    true
 }
 
 // Inside a wide field, after its first 56 bits.
-fn in_wide(p: &[u8], i: usize, low: u32, g: u32, n: u32) -> bool
+fn in_wide(p: &[u8], i: usize, g: u32, n: u32) -> bool
     requires { ⌜ (i ≤ length (now p)) × (g ≤ 56) ⌝ }
-    ensures { λ r. ⌜ r ≡ inWide low g n (drop i (now (p .entry))) ⌝ }
+    ensures { λ r. ⌜ r ≡ inWide 0 g n (drop i (now (p .entry))) ⌝ }
 {
     if i == p.len() {
         return false;
     }
-    let b = p[i];
-    if b == 0 {
-        if low == 0 {
-            return in_wide(p, i + 1, g + 1, 56, n);
+    let t = take_at(p, i, g);
+    if ends_wide(t.step) {
+        if n == 0 {
+            return false;
         }
-        return false;
-    }
-    if fits(b, low, g) {
-        let left = g - count(b);
-        if ends_wide(b) {
-            if n == 0 {
-                return false;
-            }
-            return at_field(p, i + 1, 0, left, n - 1);
-        }
-        return false;
+        return at_field(p, t.next, t.left, n - 1);
     }
     false
 }
@@ -115,7 +146,7 @@ pub fn is_plan(p: &[u8]) -> bool
     if 256 < p.len() {
         return false;
     }
-    at_field(p, 0, 0, 0, 64)
+    at_field(p, 0, 0, 64)
 }
 
 // ---- the size of a plan's layout
@@ -126,27 +157,30 @@ pub struct Size {
 }
 
 // 1 for a step that is the last of a field, else 0.
-fn ended(b: u8) -> usize
+fn ended(b: u8) -> u16
     ensures { λ r. ⌜ r ≡ one b ⌝ }
 {
     if ends(b) { 1 } else { 0 }
 }
 
-// How many fields a plan has, and how many bits they take.
+// How many fields a plan has, and how many bits they take. (Sums of 16 bits, which the compiler forms eight at a time.)
 pub fn measure(plan: &[u8]) -> Size
     requires { ⌜ isPlan (now plan) ≡ true ⌝ }
     ensures { λ r. ⌜ r ≡ record { fields = length (decode 0 (now (plan .entry))); bits = bitsOf (decode 0 (now (plan .entry))) } ⌝ }
 {
-    let mut fields: usize = 0;
-    let mut bits: usize = 0;
+    let mut fields: u16 = 0;
+    let mut bits: u16 = 0;
     let mut i: usize = 0;
     while i < plan.len() {
         let b = plan[i];
         fields += ended(b);
-        bits += count(b) as usize;
+        bits += (b % 64) as u16;
         i += 1;
     }
-    Size { fields, bits }
+    Size {
+        fields: fields as usize,
+        bits: bits as usize,
+    }
 }
 
 // ---- the compiler

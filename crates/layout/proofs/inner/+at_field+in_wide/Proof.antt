@@ -1,24 +1,24 @@
--- `at_field` and `in_wide` meet their contracts: each way through them is one outcome of a step of the check, as CheckLaws has them, and
--- each call is on fewer steps. Assumes nothing.
-use Prim.Native.Nat.{ℕ, _+_, _-_, _<_}
-use mathlib.Core.Path.{_≡_, sym, _∙_}
+-- `at_field` and `in_wide` meet their contracts: each way on behind a take is one of TakeLaws, the loop keeps the check what it was at
+-- the start, and each call is on fewer steps. Assumes nothing.
+use Prim.Native.Nat.{ℕ, _-_, _<_, _≤_}
+use mathlib.Core.Path.{_≡_, refl, sym, _∙_}
 use native.Mathlib.Omega.{arith}
-use lib.ListN.{length, drop, getD}
+use lib.ListN.{length, drop}
 use borrow.Fn.Kinds.{In, Out}
 use borrow.Fn.PlainCycle.{Measures, is, falls, and}
-use Rattle.layout.specs.Plan.{count}
-use Rattle.layout.specs.Check.{atField, inWide}
-use Rattle.layout.specs.CheckLaws.{at-end, at-index, atOn, atOn-wide, atOn-end, wide-end, wide-index, checked-refill, checked-twice, checked-unfit, checked-fit, closed, closed-on, closed-full, fits-of}
+use Rattle.layout.specs.Check.{atField}
+use Rattle.layout.specs.CheckLaws.{at-end, wide-end, closed-on, closed-full}
+use Rattle.layout.specs.Take.{TakenAt}
+use Rattle.layout.specs.TakeLaws.{field-next, field-full, field-wide, field-none}
 use Rattle.layout.proofs.inner.at_field.Reads as at-field
 use Rattle.layout.proofs.inner.at_field.Kinds as at-field-kinds
 use Rattle.layout.proofs.inner.+at_field+in_wide.Lts-at_field as at-field-lts
 use Rattle.layout.proofs.inner.in_wide.Reads as in-wide
 use Rattle.layout.proofs.inner.in_wide.Kinds as in-wide-kinds
 use Rattle.layout.proofs.inner.+at_field+in_wide.Lts-in_wide as in-wide-lts
-use Rattle.layout.proofs.inner.count.Reads as count-reads
 use Rattle.layout.proofs.inner.ends.Reads as ends-reads
 use Rattle.layout.proofs.inner.ends_wide.Reads as ends-wide-reads
-use Rattle.layout.proofs.inner.fits.Reads as fits-reads
+use Rattle.layout.proofs.inner.take_at.Reads as take-at-reads
 use Rattle.layout.proofs.inner.+at_field+in_wide.{statement}
 use Rattle.layout.proofs.inner.+at_field+in_wide.Tie.{close}
 
@@ -29,6 +29,13 @@ abbrev μ-at-field : Measures 1 at-field-kinds.ps ℕ
 
 abbrev μ-in-wide : Measures 1 in-wide-kinds.ps ℕ
 μ-in-wide κs a = length (a .0 .now) - a .1 .0
+
+abbrev Inv-loop : at-field-lts.InvT-loop
+Inv-loop p start known more i₀ g₀ n₀ i g n =
+    (start ≤ i) × (i ≤ length p) × (g ≤ 56) × (atField 0 g n (drop i p) ≡ atField 0 known more (drop start p))
+
+abbrev μ-loop : at-field-lts.MeasureT-loop
+μ-loop p start known more i₀ g₀ n₀ i g n = length p - i
 
 module _ (t : ℕ) where
   abbrev at-field-at : In 1 at-field-kinds.ps
@@ -44,146 +51,90 @@ module _ (t : ℕ) where
   in-wide-below = and 1 in-wide-kinds.ps (falls 1 in-wide-kinds.ps _<_ μ-in-wide t) in-wide.Pre
 
   abbrev at-field-calls : at-field-lts.Claims
-  at-field-calls = (
-    at-field-below,
-    at-field.Post,
-    fits-reads.Asked,
-    fits-reads.Learnt,
-    count-reads.Asked,
-    count-reads.Learnt,
-    in-wide-below,
-    in-wide.Post,
-    ends-reads.Asked,
-    ends-reads.Learnt,
-  )
+  at-field-calls = (take-at-reads.Asked, take-at-reads.Learnt, ends-reads.Asked, ends-reads.Learnt, in-wide-below, in-wide.Post)
 
   abbrev in-wide-calls : in-wide-lts.Claims
-  in-wide-calls = (
-    in-wide-below,
-    in-wide.Post,
-    fits-reads.Asked,
-    fits-reads.Learnt,
-    count-reads.Asked,
-    count-reads.Learnt,
-    ends-wide-reads.Asked,
-    ends-wide-reads.Learnt,
-    at-field-below,
-    at-field.Post,
-  )
+  in-wide-calls = (take-at-reads.Asked, take-at-reads.Learnt, ends-wide-reads.Asked, ends-wide-reads.Learnt, at-field-below, at-field.Post)
 
-  abbrev at : (at-field-lts.Claims → In 1 at-field-kinds.ps → Out 1 at-field-kinds.ps at-field-kinds.r → Type 0) → Type 0
-  at place = place at-field-calls at-field-at at-field.Post
+  abbrev at : (at-field-lts.Claims → In 1 at-field-kinds.ps → Out 1 at-field-kinds.ps at-field-kinds.r → at-field-lts.InvT-loop → at-field-lts.MeasureT-loop → Type 0) → Type 0
+  at place = place at-field-calls at-field-at at-field.Post Inv-loop μ-loop
 
   abbrev inside : (in-wide-lts.Claims → In 1 in-wide-kinds.ps → Out 1 in-wide-kinds.ps in-wide-kinds.r → Type 0) → Type 0
   inside place = place in-wide-calls in-wide-at in-wide.Post
 
   -- ---- at a field
 
-  -- a take that fits
-  at-fits : (c : at at-field-lts.Then4) →
-      let a = c .before .before .before .before .before .before .args in
-      atField (a .low) (a .g) (a .n) (drop (a .i) (a .p .now)) ≡ atOn (a .g) (a .n) (getD (a .p .now) (a .i) 0) (drop (a .i + 1) (a .p .now))
-  at-fits c =
-      let a = c .before .before .before .before .before .before .args in
-      at-index (a .low) (a .g) (a .n) (a .p .now) (a .i) (omega arith)
-      ∙ checked-fit _ _ _ _ _ (c .before .before .if2 .left) (sym (c .before .fits2 .ensures) ∙ c .if4 .taken)
+  -- the take at step i of the loop
+  at-take : (c : at at-field-lts.After-take-at) → let l = c .before .before .loop in TakenAt (c .before .before .before .before .args .p .now) (l .i) (l .g) (c .take-at .result)
+  at-take c = c .take-at .ensures
 
-  -- and is not the first part of a wide field
-  at-last : (c : at at-field-lts.After-ends) →
-      let a = c .before .before .before .before .before .before .before .before .before .args in
-      atField (a .low) (a .g) (a .n) (drop (a .i) (a .p .now)) ≡ closed (c .ends .result) (a .n) (atField 0 (a .g - c .before .before .count .result) (a .n - 1) (drop (a .i + 1) (a .p .now)))
-  at-last c =
-      let a = c .before .before .before .before .before .before .before .before .before .args in
-      at-fits (c .before .before .before)
-      ∙ atOn-end (a .g) (a .n) _ (drop (a .i + 1) (a .p .now)) (c .before .if5 .left)
-      ∙ rw (c .ends .ensures, c .before .before .count .ensures)
+  at-full : at at-field-lts.Need-returns
+  at-full c =
+      let taken = at-take (c .before .before .before) in
+      let l = c .before .before .before .before .before .loop in
+      sym (field-full taken (l .n) (sym (c .before .before .ends .ensures) ∙ c .before .if1 .taken) (c .if2 .taken)) ∙ l .inv .3
 
-  at-over : at at-field-lts.Need-returns
-  at-over c = let a = c .before .before .args in sym (at-end (a .low) (a .g) (a .n) (a .p .now) (a .i) (c .if1 .taken))
+  at-less : at at-field-lts.Need-loop-less
+  at-less c = omega (arith, (at-take (c .before .before .before)) .ahead)
 
-  at-refill : at at-field-lts.Need-returns-2
-  at-refill c =
-      let a = c .before .before .before .before .before .before .args in
-      rw (c .at-field .ensures)
-      (sym (at-index (a .low) (a .g) (a .n) (a .p .now) (a .i) (omega arith) ∙ checked-refill _ _ _ _ _ (c .before .before .if2 .taken) (c .before .if3 .taken)))
+  at-next : at at-field-lts.Need-loop-again
+  at-next c =
+      let taken = at-take (c .before .before .before) in
+      let l = c .before .before .before .before .before .loop in (
+        omega (arith, taken .ahead),
+        taken .there,
+        taken .known,
+        sym (field-next taken (l .n) (sym (c .before .before .ends .ensures) ∙ c .before .if1 .taken) (c .if2 .left)) ∙ l .inv .3,
+      )
 
-  at-twice : at at-field-lts.Need-returns-3
-  at-twice c =
-      let a = c .before .before .before .before .before .args in
-      sym (at-index (a .low) (a .g) (a .n) (a .p .now) (a .i) (omega arith) ∙ checked-twice _ _ _ _ _ (c .before .if2 .taken) (c .if3 .left))
+  at-wide-asks : at at-field-lts.Need-in-wide-requires
+  at-wide-asks c κs = let taken = at-take (c .before .before .before .before) in omega (arith, taken .ahead, taken .there, taken .known)
 
-  at-wide : at at-field-lts.Need-returns-4
+  at-wide : at at-field-lts.Need-returns-2
   at-wide c =
-      let a = c .before .before .before .before .before .before .before .before .before .args in
-      let full : c .before .before .count .result ≡ 56 = omega arith in
-      rw (c .in-wide .ensures, full)
-      (sym (at-fits (c .before .before .before) ∙ atOn-wide (a .g) (a .n) _ (drop (a .i + 1) (a .p .now)) (c .before .if5 .taken)))
+      let taken = at-take (c .before .before .before .before .before) in
+      let l = c .before .before .before .before .before .before .before .loop in
+      c .in-wide .ensures ∙ sym (field-wide taken (l .n) (c .before .if3 .taken)) ∙ l .inv .3
 
-  at-full : at at-field-lts.Need-returns-5
-  at-full c = sym (at-last (c .before .before) ∙ closed-full _ _ _ (c .before .if6 .taken) (c .if7 .taken))
+  at-none : at at-field-lts.Need-returns-3
+  at-none c =
+      let taken = at-take (c .before .before .before .before) in
+      let l = c .before .before .before .before .before .before .loop in
+      sym (field-none taken (l .n) (c .if3 .left) (sym (c .before .before .before .ends .ensures) ∙ c .before .before .if1 .left)) ∙ l .inv .3
 
-  at-next : at at-field-lts.Need-returns-6
-  at-next c = c .at-field2 .ensures ∙ sym (at-last (c .before .before .before) ∙ closed-on _ _ _ (c .before .before .if6 .taken) (c .before .if7 .left))
-
-  at-none : at at-field-lts.Need-returns-7
-  at-none c = sym (at-last (c .before) ∙ rw (c .if6 .left))
-
-  at-unfit : at at-field-lts.Need-returns-8
-  at-unfit c =
-      let a = c .before .before .before .before .before .before .args in
-      sym (at-index (a .low) (a .g) (a .n) (a .p .now) (a .i) (omega arith) ∙ checked-unfit _ _ _ _ _ (c .before .before .if2 .left) (sym (c .before .fits2 .ensures) ∙ c .if4 .left))
-
-  at-sub-left : at at-field-lts.Need-sub-left
-  at-sub-left c =
-      let a = c .before .before .before .before .before .before .before .args in
-      let known = fits-of (a .low) (a .g) (getD (a .p .now) (a .i) 0) (sym (c .before .before .fits2 .ensures) ∙ c .before .if4 .taken) in
-      omega (arith, known .1, c .count .ensures)
+  at-over : at at-field-lts.Need-returns-4
+  at-over c =
+      let l = c .before .loop in
+      sym (at-end 0 (l .g) (l .n) (c .before .before .before .args .p .now) (l .i) (omega arith)) ∙ l .inv .3
 
   -- ---- inside a wide field
 
-  -- a take that fits
-  wide-last : (c : inside in-wide-lts.After-ends-wide) →
-      let a = c .before .before .before .before .before .before .before .before .args in
-      inWide (a .low) (a .g) (a .n) (drop (a .i) (a .p .now)) ≡ closed (c .ends-wide .result) (a .n) (atField 0 (a .g - c .before .count .result) (a .n - 1) (drop (a .i + 1) (a .p .now)))
-  wide-last c =
-      let a = c .before .before .before .before .before .before .before .before .args in
-      wide-index (a .low) (a .g) (a .n) (a .p .now) (a .i) (omega arith)
-      ∙ checked-fit _ _ _ _ _ (c .before .before .before .before .if2 .left) (sym (c .before .before .before .fits2 .ensures) ∙ c .before .before .if4 .taken)
-      ∙ rw (c .ends-wide .ensures, c .before .count .ensures)
+  -- the take at step i
+  wide-take : (c : inside in-wide-lts.After-take-at) → let a = c .before .before .before .args in TakenAt (a .p .now) (a .i) (a .g) (c .take-at .result)
+  wide-take c = c .take-at .ensures
 
   wide-over : inside in-wide-lts.Need-returns
-  wide-over c = let a = c .before .before .args in sym (wide-end (a .low) (a .g) (a .n) (a .p .now) (a .i) (c .if1 .taken))
+  wide-over c = let a = c .before .before .args in sym (wide-end 0 (a .g) (a .n) (a .p .now) (a .i) (c .if1 .taken))
 
-  wide-refill : inside in-wide-lts.Need-returns-2
-  wide-refill c =
+  wide-full : inside in-wide-lts.Need-returns-2
+  wide-full c =
       let a = c .before .before .before .before .before .before .args in
-      rw (c .in-wide .ensures)
-      (sym (wide-index (a .low) (a .g) (a .n) (a .p .now) (a .i) (omega arith) ∙ checked-refill _ _ _ _ _ (c .before .before .if2 .taken) (c .before .if3 .taken)))
+      sym ((wide-take (c .before .before .before)) .inside (a .n) ∙ closed-full _ _ _ (sym (c .before .before .ends-wide .ensures) ∙ c .before .if2 .taken) (c .if3 .taken))
 
-  wide-twice : inside in-wide-lts.Need-returns-3
-  wide-twice c =
-      let a = c .before .before .before .before .before .args in
-      sym (wide-index (a .low) (a .g) (a .n) (a .p .now) (a .i) (omega arith) ∙ checked-twice _ _ _ _ _ (c .before .if2 .taken) (c .if3 .left))
+  wide-asks : inside in-wide-lts.Need-at-field-requires
+  wide-asks c κs = let taken = wide-take (c .before .before .before) in omega (arith, taken .ahead, taken .there, taken .known)
 
-  wide-full : inside in-wide-lts.Need-returns-4
-  wide-full c = sym (wide-last (c .before .before) ∙ closed-full _ _ _ (c .before .if5 .taken) (c .if6 .taken))
-
-  wide-next : inside in-wide-lts.Need-returns-5
-  wide-next c = c .at-field .ensures ∙ sym (wide-last (c .before .before .before) ∙ closed-on _ _ _ (c .before .before .if5 .taken) (c .before .if6 .left))
-
-  wide-none : inside in-wide-lts.Need-returns-6
-  wide-none c = sym (wide-last (c .before) ∙ rw (c .if5 .left))
-
-  wide-unfit : inside in-wide-lts.Need-returns-7
-  wide-unfit c =
-      let a = c .before .before .before .before .before .before .args in
-      sym (wide-index (a .low) (a .g) (a .n) (a .p .now) (a .i) (omega arith) ∙ checked-unfit _ _ _ _ _ (c .before .before .if2 .left) (sym (c .before .fits2 .ensures) ∙ c .if4 .left))
-
-  wide-sub-left : inside in-wide-lts.Need-sub-left
-  wide-sub-left c =
+  wide-next : inside in-wide-lts.Need-returns-3
+  wide-next c =
       let a = c .before .before .before .before .before .before .before .args in
-      let known = fits-of (a .low) (a .g) (getD (a .p .now) (a .i) 0) (sym (c .before .before .fits2 .ensures) ∙ c .before .if4 .taken) in
-      omega (arith, known .1, c .count .ensures)
+      c .at-field .ensures
+      ∙ sym ((wide-take (c .before .before .before .before)) .inside (a .n) ∙ closed-on _ _ _ (sym (c .before .before .before .ends-wide .ensures) ∙ c .before .before .if2 .taken) (c .before .if3 .left))
+
+  wide-none : inside in-wide-lts.Need-returns-4
+  wide-none c =
+      let a = c .before .before .before .before .before .args in
+      let more = sym (c .before .ends-wide .ensures) ∙ c .if2 .left in
+      sym ((wide-take (c .before .before)) .inside (a .n) ∙ rw more)
 
 -- every other need is one of bounds
 pub +at-field+in-wide-spec : {M : Type 1} → statement M
@@ -193,46 +144,28 @@ pub +at-field+in-wide-spec : {M : Type 1} → statement M
     (at-field-calls t)
     (at-field-at t)
     at-field.Post
-    (at-over t)
-    (λ c. omega arith)
-    (λ c. omega arith)
-    (λ c. omega arith)
+    Inv-loop
+    μ-loop
+    (λ c. (omega arith, omega arith, omega arith, refl))
     (λ c κs. omega arith)
-    (at-refill t)
-    (at-twice t)
-    (λ c κs. omega arith)
-    (λ c κs. omega arith)
-    (at-sub-left t)
-    (λ c. omega arith)
-    (λ c κs. omega arith)
-    (at-wide t)
     (λ c κs. omega arith)
     (at-full t)
     (λ c. omega arith)
-    (λ c. omega arith)
-    (λ c κs. omega arith)
+    (at-less t)
     (at-next t)
+    (at-wide-asks t)
+    (at-wide t)
     (at-none t)
-    (at-unfit t))
+    (at-over t))
     (λ t. in-wide-lts.spec
     (in-wide-calls t)
     (in-wide-at t)
     in-wide.Post
     (wide-over t)
-    (λ c. omega arith)
-    (λ c. omega arith)
-    (λ c. omega arith)
     (λ c κs. omega arith)
-    (wide-refill t)
-    (wide-twice t)
-    (λ c κs. omega arith)
-    (λ c κs. omega arith)
-    (wide-sub-left t)
     (λ c κs. omega arith)
     (wide-full t)
     (λ c. omega arith)
-    (λ c. omega arith)
-    (λ c κs. omega arith)
+    (wide-asks t)
     (wide-next t)
-    (wide-none t)
-    (wide-unfit t))
+    (wide-none t))

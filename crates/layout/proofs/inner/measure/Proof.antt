@@ -33,18 +33,15 @@ add-fields c =
     let plan = s .args .plan .now in
     omega (arith, ended-at plan (l .i) (omega arith), ended-le plan, plan-length plan (s .pre), c .ended .ensures)
 
-count-requires : tie.Need-count-requires Inv-loop μ-loop
-count-requires c κs = omega arith
-
 cast-bits : tie.Need-cast-bits Inv-loop μ-loop
 cast-bits c = omega arith
 
 add-bits : tie.Need-add-bits Inv-loop μ-loop
 add-bits c =
-    let l = c .before .before .before .before .loop in
-    let s = c .before .before .before .before .before .before in
+    let l = c .before .before .before .loop in
+    let s = c .before .before .before .before .before in
     let plan = s .args .plan .now in
-    omega (arith, total-at plan (l .i) (omega arith), total-le plan, plan-length plan (s .pre), c .count .ensures)
+    omega (arith, total-at plan (l .i) (omega arith), total-le plan, plan-length plan (s .pre))
 
 add-i : tie.Need-add-i Inv-loop μ-loop
 add-i c = omega arith
@@ -54,12 +51,18 @@ loop-less c = omega arith
 
 loop-again : tie.Need-loop-again Inv-loop μ-loop
 loop-again c =
-    let l = c .before .before .before .before .loop in
-    let plan = c .before .before .before .before .before .before .args .plan .now in (
+    let l = c .before .before .before .loop in
+    let plan = c .before .before .before .before .before .args .plan .now in (
       omega arith,
-      omega (arith, ended-at plan (l .i) (omega arith), c .before .ended .ensures),
-      omega (arith, total-at plan (l .i) (omega arith), c .count .ensures),
+      omega (arith, ended-at plan (l .i) (omega arith), c .ended .ensures),
+      omega (arith, total-at plan (l .i) (omega arith)),
     )
+
+cast-t11 : tie.Need-cast-t11 Inv-loop μ-loop
+cast-t11 c = let s = c .before .before .before in omega (arith, ended-le (s .args .plan .now), plan-length (s .args .plan .now) (s .pre))
+
+cast-t12 : tie.Need-cast-t12 Inv-loop μ-loop
+cast-t12 c = let s = c .before .before .before in omega (arith, total-le (s .args .plan .now), plan-length (s .args .plan .now) (s .pre))
 
 returns : tie.Need-returns Inv-loop μ-loop
 returns c =
@@ -80,10 +83,11 @@ measure-spec =
     shared-slice-read-b
     ended-requires
     add-fields
-    count-requires
     cast-bits
     add-bits
     add-i
     loop-less
     loop-again
+    cast-t11
+    cast-t12
     returns)
