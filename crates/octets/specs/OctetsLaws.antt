@@ -7,14 +7,14 @@ use mathlib.Core.List.{List, _++_}
 use lib.ListN.{length, getD, take, drop, length-take, length-drop}
 use lib.Seq.{getD-take, getD-drop}
 use lib.Pow.{mod-pow-add, shl-shr, shr-lt}
-use lib.Bits.{bitOr, or-comm, or-shifted}
+use lib.Bits.{bitXor, xor-shifted}
 use Rattle.bits.specs.declared.Order.{Order}
 use Rattle.bits.specs.declared.Order.the-variants.{Little, Big}
 use Rattle.bits.specs.Field.{join, field}
 use Rattle.bits.specs.Word.{first, rest}
 use Rattle.bits.specs.JoinLaws.{first-join, rest-join}
 use Rattle.bits.specs.FieldLaws.{field-lt, field-split, field-cut, field-byte}
-use Rattle.octets.specs.Octets.{firsts, octets}
+use Rattle.octets.specs.Octets.{firsts, octets, byOrder, straddled}
 use Rattle.octets.specs.FirstsLaws.{length-firsts, getD-firsts, firsts-is, firsts-same, firsts-split}
 
 module _ (o : Order) (s : List ℕ) (p : ℕ) where
@@ -40,24 +40,21 @@ module _ (o : Order) (s : List ℕ) (p : ℕ) where
 shl-low : (x a b : ℕ) → (x * 2 ^ a) % 2 ^ (b + a) ≡ x % 2 ^ b * 2 ^ a
 shl-low x a b = mod-pow-add (x * 2 ^ a) b a ∙ simp (shl-shr, mul-mod-left, add-zero)
 
--- (x << a) | (y >> b), of bytes
-above-high : (x y a b : ℕ) → b + a ≡ 8 → y < 2 ^ 8 → bitOr ((x * 2 ^ a) % 2 ^ 8) (y / 2 ^ b) ≡ x % 2 ^ b * 2 ^ a + y / 2 ^ b
-above-high x y a b e h =
-    let f : 8 ≡ a + b = omega arith in
-    ap (λ (k : ℕ). bitOr ((x * 2 ^ a) % 2 ^ k) (y / 2 ^ b)) (sym e)
-    ∙ ap (λ (k : ℕ). bitOr k (y / 2 ^ b)) (shl-low x a b)
-    ∙ or-shifted (x % 2 ^ b) a (y / 2 ^ b) (shr-lt a b (subst (λ (k : ℕ). y < 2 ^ k) f h))
+-- (x << k) ^ (y >> (8 - k)), of bytes
+pub straddled-is : (x y k : ℕ) → k ≤ 8 → y < 2 ^ 8 → bitXor ((x * 2 ^ k) % 2 ^ 8) (y / 2 ^ (8 - k)) ≡ straddled x y k
+unfolding straddled
+straddled-is x y k l h =
+    let e : 8 - k + k ≡ 8 = omega arith in
+    let f : 8 ≡ k + (8 - k) = omega arith in
+    ap (λ (m : ℕ). bitXor ((x * 2 ^ k) % 2 ^ m) (y / 2 ^ (8 - k))) (sym e)
+    ∙ ap (λ (m : ℕ). bitXor m (y / 2 ^ (8 - k))) (shl-low x k (8 - k))
+    ∙ xor-shifted (x % 2 ^ (8 - k)) k (y / 2 ^ (8 - k)) (shr-lt k (8 - k) (subst (λ (m : ℕ). y < 2 ^ m) f h))
 
--- the last 8 - n bits of x, then the first n of y
-module _ (x y n : ℕ) (h : n ≤ 8) where
-  pub straddle-little : x < 2 ^ 8 → bitOr (x / 2 ^ n) ((y * 2 ^ (8 - n)) % 2 ^ 8) ≡ join Little (8 - n) n (rest Little n (8 - n) x) (first Little n (8 - n) y)
-  unfolding join first rest
-  straddle-little b =
-      or-comm (x / 2 ^ n) ((y * 2 ^ (8 - n)) % 2 ^ 8) ∙ above-high y x (8 - n) n (omega arith) b
-
-  pub straddle-big : y < 2 ^ 8 → bitOr ((x * 2 ^ n) % 2 ^ 8) (y / 2 ^ (8 - n)) ≡ join Big (8 - n) n (rest Big n (8 - n) x) (first Big n (8 - n) y)
-  unfolding join first rest
-  straddle-big b = above-high x y n (8 - n) (omega arith) b
+-- what holds of both numbers holds of the one that the order picks
+pub either-way : (P : ℕ → Type 0) {l b : ℕ} → P l → P b → (o : Order) → P (byOrder o l b)
+unfolding byOrder
+either-way P p q Little = p
+either-way P p q Big = q
 
 -- ---- fields of a slice of bytes
 
@@ -80,6 +77,23 @@ module _ (o : Order) (s : List ℕ) (b : (i : ℕ) → getD s i 0 < 2 ^ 8) where
       ap₂ (join o (8 - n) n) (byte-rest (at + i) n h) (byte-first (at + i + 1) n h ∙ ap (λ (k : ℕ). field o s k n) p)
       ∙ sym (field-split o s (8 * (at + i) + n) (8 - n) n)
       ∙ ap₂ (field o s) q e
+
+  -- the same as a straddle, of bytes at places that the order picks
+  pub straddled-field : (at n i : ℕ) → n ≤ 8
+      → straddled (getD s (byOrder o (at + 1) at + i) 0) (getD s (byOrder o at (at + 1) + i) 0) (byOrder o (8 - n) n) ≡ field o s (8 * at + n + 8 * i) 8
+  unfolding straddled byOrder join first rest
+  straddled-field at n i h = by-order o ∙ field-straddle at n i h
+    where
+      e : at + 1 + i ≡ at + i + 1
+      e = omega arith
+
+      f : 8 - (8 - n) ≡ n
+      f = omega arith
+
+      by-order : (o : Order) → straddled (getD s (byOrder o (at + 1) at + i) 0) (getD s (byOrder o at (at + 1) + i) 0) (byOrder o (8 - n) n)
+          ≡ join o (8 - n) n (rest o n (8 - n) (getD s (at + i) 0)) (first o n (8 - n) (getD s (at + i + 1) 0))
+      by-order Little = rw (e, f)
+      by-order Big = rw e
 
   -- at a byte's place the fields are the bytes
   pub octets-bytes : (at n : ℕ) → octets o s (8 * at) n ≡ firsts (λ i. getD s (at + i) 0) n

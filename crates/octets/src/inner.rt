@@ -1,21 +1,26 @@
 // Bytes by place at memory speed, for proved callers.
 use bits::Order;
 ghost use mathlib.Core.Path.{_≡_};
-ghost use Prim.Native.Nat.{_+_, _-_, _*_, _<_, _≤_};
+ghost use Prim.Native.Nat.{_+_, _*_, _<_, _≤_};
 ghost use lib.ListN.{length, getD};
-ghost use Rattle.bits.specs.Field.{join};
-ghost use Rattle.bits.specs.Word.{first, rest};
-ghost use Rattle.octets.specs.Octets.{octets, firsts};
+ghost use Rattle.octets.specs.Octets.{octets, firsts, byOrder, straddled};
 
-// The last 8 - n bits of the byte x, then the first n of y.
-fn straddle(order: Order, x: u8, y: u8, n: u32) -> u8
-    requires { ⌜ (1 ≤ n) × (n ≤ 7) ⌝ }
-    ensures { λ r. ⌜ r ≡ join order (8 - n) n (rest order n (8 - n) x) (first order n (8 - n) y) ⌝ }
+// One of two numbers, by the order.
+fn by_order(order: Order, little: usize, big: usize) -> usize
+    ensures { λ r. ⌜ r ≡ byOrder order little big ⌝ }
 {
     match order {
-        Order::Little => (x >> n) | (y << (8 - n)),
-        Order::Big => (x << n) | (y >> (8 - n)),
+        Order::Little => little,
+        Order::Big => big,
     }
+}
+
+// The low 8 - k bits of the byte x, above the high k of y. LLVM makes a slower loop of `|`.
+fn straddle(x: u8, y: u8, k: usize) -> u8
+    requires { ⌜ (1 ≤ k) × (k ≤ 7) ⌝ }
+    ensures { λ r. ⌜ r ≡ straddled x y k ⌝ }
+{
+    (x << k) ^ (y >> (8 - k))
 }
 
 // Fills out with the bytes from `at` on.
@@ -30,16 +35,26 @@ fn copy_from(src: &[u8], at: usize, out: &mut [u8])
     }
 }
 
-// Fills out with the bytes from bit n of the byte `at` on.
-fn read_n_bytes(order: Order, src: &[u8], at: usize, n: u32, out: &mut [u8])
-    requires { ⌜ (1 ≤ n) × (n ≤ 7) × (at + length (now out) < length (now src)) ⌝ }
-    ensures { λ _. ⌜ now (out .exit) ≡ octets order (now (src .entry)) (8 * at + n) (length (now (out .entry))) ⌝ }
+// Fills out with straddles of the bytes from `high` on and those from `low` on.
+fn straddle_from(src: &[u8], high: usize, low: usize, k: usize, out: &mut [u8])
+    requires { ⌜ (1 ≤ k) × (k ≤ 7) × (high + length (now out) ≤ length (now src)) × (low + length (now out) ≤ length (now src)) ⌝ }
+    ensures { λ _. ⌜ now (out .exit) ≡ firsts (λ i. straddled (getD (now (src .entry)) (high + i) 0) (getD (now (src .entry)) (low + i) 0) k) (length (now (out .entry))) ⌝ }
 {
     let mut i = 0;
     while i < out.len() {
-        out[i] = straddle(order, src[at + i], src[at + i + 1], n);
+        out[i] = straddle(src[high + i], src[low + i], k);
         i += 1;
     }
+}
+
+// Fills out with the bytes from bit n of the byte `at` on. Only the places depend on the order, so that one loop serves both.
+fn read_n_bytes(order: Order, src: &[u8], at: usize, n: usize, out: &mut [u8])
+    requires { ⌜ (1 ≤ n) × (n ≤ 7) × (at + length (now out) < length (now src)) ⌝ }
+    ensures { λ _. ⌜ now (out .exit) ≡ octets order (now (src .entry)) (8 * at + n) (length (now (out .entry))) ⌝ }
+{
+    let high = by_order(order, at + 1, at);
+    let low = by_order(order, at, at + 1);
+    straddle_from(src, high, low, by_order(order, 8 - n, n), out);
 }
 
 // Fills out with fields of eight bits from a place on.
@@ -48,7 +63,7 @@ pub fn bytes_at(order: Order, src: &[u8], place: usize, out: &mut [u8])
     ensures { λ _. ⌜ now (out .exit) ≡ octets order (now (src .entry)) place (length (now (out .entry))) ⌝ }
 {
     let at = place / 8;
-    let n = (place % 8) as u32;
+    let n = place % 8;
     if n == 0 {
         copy_from(src, at, out);
     } else {

@@ -9,9 +9,6 @@ use borrow.Author.Needs.{needs}
 use Rattle.octets.proofs.inner.bytes_at.Statement.{statement}
 use Rattle.octets.proofs.inner.bytes_at.Tie as tie
 
-cast-n : tie.Need-cast-n
-cast-n c = search needs
-
 copy-from-requires : tie.Need-copy-from-requires
 copy-from-requires c κs = search needs
 
@@ -41,7 +38,6 @@ pub bytes-at-spec : {M : Type 1} → statement M
 bytes-at-spec =
     tie.close
     (tie.spec
-    cast-n
     copy-from-requires
     read-n-bytes-requires
     same-length

@@ -1,84 +1,73 @@
--- `read_n_bytes` meets its contract: a straddle of two neighbours is the field of eight bits between them (`field-straddle`),
--- and each turn puts the next one behind those that stand already (`Upto`). Assumes nothing.
-use Prim.Native.Nat.{ℕ, _+_, _-_, _*_, _^_, _<_}
+-- `read_n_bytes` meets its contract: a straddle of two neighbours, taken at the places that the order picks, is the field of eight bits
+-- between them (`straddled-field`). Assumes nothing.
+use mathlib.Core.Path.{_≡_, _∙_}
+use Prim.Native.Nat.{ℕ, _+_, _-_, _*_, _^_, _<_, _≤_}
 use native.Mathlib.Omega.{arith}
-use lib.ListN.{length, getD, length-set}
+use lib.ListN.{length, getD}
 use Rattle.bits.specs.Field.{field}
-use Rattle.octets.specs.Octets.{octets}
-use Rattle.octets.specs.FirstsLaws.{Upto, upto-none, upto-next, upto-all}
-use Rattle.octets.specs.OctetsLaws.{field-straddle}
+use Rattle.octets.specs.Octets.{octets, byOrder, straddled}
+use Rattle.octets.specs.FirstsLaws.{firsts-same}
+use Rattle.octets.specs.OctetsLaws.{either-way, straddled-field}
+use borrow.Author.Needs.{needs}
 use Rattle.octets.proofs.inner.read_n_bytes.Statement.{statement}
 use Rattle.octets.proofs.inner.read_n_bytes.Tie as tie
 
-abbrev Inv-loop : tie.InvT-loop
-Inv-loop order src at n out₀ i₀ out i = Upto (λ j. field order src (8 * at + n + 8 * j) 8) (length out₀) out i
+add-by-order : tie.Need-add-by-order
+add-by-order c = search needs
 
-abbrev μ-loop : tie.MeasureT-loop
-μ-loop order src at n out₀ i₀ out i = length out - i
+by-order-requires : tie.Need-by-order-requires
+by-order-requires c κs = search needs
 
-loop-holds : tie.Need-loop-holds Inv-loop μ-loop
-loop-holds c =
-    let a = c .before .before .args in
-    upto-none (λ j. field (a .order) (a .src .now) (8 * a .at + a .n + 8 * j) 8) (a .out .now)
+add-by-order-2 : tie.Need-add-by-order-2
+add-by-order-2 c = search needs
 
-add-straddle : tie.Need-add-straddle Inv-loop μ-loop
-add-straddle c = omega arith
+by-order-requires-2 : tie.Need-by-order-requires-2
+by-order-requires-2 c κs = search needs
 
-shared-slice-read-straddle : tie.Need-shared-slice-read-straddle Inv-loop μ-loop
-shared-slice-read-straddle c = omega arith
+sub-by-order : tie.Need-sub-by-order
+sub-by-order c = search needs
 
-add-straddle-2 : tie.Need-add-straddle-2 Inv-loop μ-loop
-add-straddle-2 c = omega arith
+by-order-requires-3 : tie.Need-by-order-requires-3
+by-order-requires-3 c κs = search needs
 
-add-straddle-3 : tie.Need-add-straddle-3 Inv-loop μ-loop
-add-straddle-3 c = omega arith
+straddle-from-requires : tie.Need-straddle-from-requires
+straddle-from-requires c κs =
+    let s = c .before .before .before .before .before .before in
+    let a = s .args in
+    let o = a .order in
+    let within : ℕ → Type 0 = λ k. k + length (a .out .now) ≤ length (a .src .now) in
+    rw (c .before .before .before .by-order .ensures, c .before .before .by-order2 .ensures, c .before .by-order3 .ensures) (
+      either-way (λ k. 1 ≤ k) (omega arith) (omega arith) o,
+      either-way (λ k. k ≤ 7) (omega arith) (omega arith) o,
+      either-way within (omega arith) (omega arith) o,
+      either-way within (omega arith) (omega arith) o,
+    )
 
-shared-slice-read-straddle-2 : tie.Need-shared-slice-read-straddle-2 Inv-loop μ-loop
-shared-slice-read-straddle-2 c = omega arith
+same-length : tie.Need-same-length
+same-length c = search needs
 
-straddle-requires : tie.Need-straddle-requires Inv-loop μ-loop
-straddle-requires c κs = omega arith
-
-slice-write-out : tie.Need-slice-write-out Inv-loop μ-loop
-slice-write-out c = omega arith
-
-add-i : tie.Need-add-i Inv-loop μ-loop
-add-i c = omega arith
-
-loop-less : tie.Need-loop-less Inv-loop μ-loop
-loop-less c = simp length-set (omega arith)
-
-loop-again : tie.Need-loop-again Inv-loop μ-loop
-loop-again c =
-    let l = c .before .before .before .before .loop in
-    let a = c .before .before .before .before .before .before .before .args in
-    let b : (i : ℕ) → getD (a .src .now) i 0 < 2 ^ 8 = λ i. c .before .before .before .before .before .before .shared-slice-known .given i .fits in
-    let e = field-straddle (a .order) (a .src .now) b (a .at) (a .n) (l .i) (omega arith) in
-    upto-next (l .inv) (c .straddle .result) (omega arith) (rw e at (c .straddle .ensures))
-
-same-length : tie.Need-same-length Inv-loop μ-loop
-same-length c = c .before .loop .inv .sized
-
-returns : tie.Need-returns Inv-loop μ-loop
+returns : tie.Need-returns
 unfolding octets
-returns c = upto-all (c .before .loop .inv) (omega arith)
+returns c =
+    let bytes = c .before .before .before .before .before .before .before .before in
+    let a = bytes .before .args in
+    let o = a .order in
+    let t = a .src .now in
+    let b : (i : ℕ) → getD t i 0 < 2 ^ 8 = λ i. bytes .shared-slice-known .given i .fits in
+    rw (c .before .before .before .before .before .before .by-order .ensures, c .before .before .before .before .before .by-order2 .ensures, c .before .before .before .before .by-order3 .ensures) at (c .before .before .straddle-from .ensures)
+    ∙ firsts-same (λ i. straddled (getD t (byOrder o (a .at + 1) (a .at) + i) 0) (getD t (byOrder o (a .at) (a .at + 1) + i) 0) (byOrder o (8 - a .n) (a .n)))
+    (λ i. field o t (8 * a .at + a .n + 8 * i) 8) (length (a .out .now)) (λ i h. straddled-field o t b (a .at) (a .n) i (omega arith))
 
 pub read-n-bytes-spec : {M : Type 1} → statement M
 read-n-bytes-spec =
     tie.close
     (tie.spec
-    Inv-loop
-    μ-loop
-    loop-holds
-    add-straddle
-    shared-slice-read-straddle
-    add-straddle-2
-    add-straddle-3
-    shared-slice-read-straddle-2
-    straddle-requires
-    slice-write-out
-    add-i
-    loop-less
-    loop-again
+    add-by-order
+    by-order-requires
+    add-by-order-2
+    by-order-requires-2
+    sub-by-order
+    by-order-requires-3
+    straddle-from-requires
     same-length
     returns)
