@@ -1,15 +1,17 @@
 -- Laws of the bytes of a number, over the order: how many they are, those of a longer number, and those of a field.
 use mathlib.Core.Path.{_≡_, refl, sym, ap, ap₂, _∙_, subst}
-use Prim.Native.Nat.{ℕ, zero, suc, _+_, _*_, _/_, _%_, _^_, _<_}
+use Prim.Native.Nat.{ℕ, zero, suc, _+_, _-_, _*_, _/_, _%_, _^_, _<_, _≤_}
 use native.Mathlib.Nat.{add-zero, zero-add, suc-add}
 use native.Mathlib.Omega.{arith}
-use mathlib.Core.List.{List, [], _∷_, _++_}
-use lib.ListN.{getD, length}
+use mathlib.Core.List.{List, [], _∷_, _++_, append-nil}
+use lib.ListN.{getD, length, take}
+use lib.Seq.{take-at}
+use lib.Pow.{pow-pos}
 use Rattle.bits.specs.declared.Order.{Order}
 use Rattle.bits.specs.declared.Order.the-variants.{Little, Big}
 use Rattle.bits.specs.Field.{position, bit, join, field}
 use Rattle.bits.specs.Word.{first, rest}
-use Rattle.bits.specs.JoinLaws.{first-join, rest-join, rest-lt, rest-none}
+use Rattle.bits.specs.JoinLaws.{join-none, first-join, rest-join, rest-lt, rest-none}
 use Rattle.bits.specs.FieldLaws.{field-lt, field-split, field-same, field-byte}
 use Rattle.packing.specs.Packing.{bytesOf}
 use Rattle.packing.specs.PartLaws.{first-of-longer, rest-of-longer, rest-twice}
@@ -44,6 +46,27 @@ bytes-append o (suc n₁) r₁ b n₂ r {v} {y} e hv hy =
     ∙ ap₂ (λ (h l : ℕ). h ∷ bytesOf o (n₁ + n₂) r l) (first-of-longer o 8 m b hv′ hy) (rest-of-longer o 8 m b hv′ hy)
     ∙ ap (λ (l : List ℕ). first o 8 m v ∷ l) (bytes-append o n₁ r₁ b n₂ r e (rest-lt o 8 m hv′) hy)
     ∙ ap (λ (k : ℕ). first o 8 m v ∷ (bytesOf o n₁ r₁ (rest o 8 m v) ++ bytesOf o n₂ r (join o r₁ b k y))) (sym (ap (λ (k : ℕ). rest o k r₁ v) u ∙ w))
+
+-- the bytes of a number that end before b more bits
+pub bytes-longer : (o : Order) (n r b q : ℕ) {v y : ℕ} → r + b ≡ q → v < 2 ^ (8 * n + r) → y < 2 ^ b → bytesOf o n q (join o (8 * n + r) b v y) ≡ bytesOf o n r v
+unfolding bytesOf
+bytes-longer o n r b q {v} {y} e hv hy =
+    let f : r + b ≡ 8 * 0 + q = omega arith in
+    ap (λ (k : ℕ). bytesOf o k q (join o (8 * n + r) b v y)) (sym (add-zero n))
+    ∙ bytes-append o n r b 0 q f hv hy ∙ append-nil (bytesOf o n r v)
+
+-- the first k bytes of a word
+pub bytes-first : (o : Order) (k : ℕ) {x : ℕ} → k ≤ 8 → x < 2 ^ 64 → bytesOf o k (64 - 8 * k) x ≡ take k (bytesOf o 8 0 x)
+bytes-first o k {x} l h =
+    let e : 64 - 8 * k + 0 ≡ 8 * (8 - k) + 0 = omega arith in
+    let f : k + (8 - k) ≡ 8 = omega arith in
+    let g : 64 ≡ 8 * k + (64 - 8 * k) = omega arith in
+    let front : List ℕ = bytesOf o k (64 - 8 * k) x in
+    let later : List ℕ = bytesOf o (8 - k) 0 (join o (64 - 8 * k) 0 (rest o (8 * k) (64 - 8 * k) x) 0) in
+    let all : bytesOf o 8 0 x ≡ front ++ later =
+    ap₂ (λ (i y : ℕ). bytesOf o i 0 y) (sym f) (sym (join-none o (8 * k + (64 - 8 * k)) x))
+    ∙ bytes-append o k (64 - 8 * k) 0 (8 - k) 0 e (subst (λ (i : ℕ). x < 2 ^ i) g h) (pow-pos 0) in
+    sym (ap (take k) all ∙ take-at front later k (length-bytes o k (64 - 8 * k) x))
 
 -- ---- bytes of a field
 

@@ -1,15 +1,16 @@
 -- The eight bytes of a word in both orders, and the one order's bytes out of the other's.
-use mathlib.Core.Path.{_≡_, sym, ap, _∙_}
-use Prim.Native.Nat.{ℕ, zero, suc, _+_, _*_, _/_, _%_, _^_, _<_}
+use mathlib.Core.Path.{_≡_, sym, ap, _∙_, subst}
+use Prim.Native.Nat.{ℕ, zero, suc, _+_, _-_, _*_, _/_, _%_, _^_, _<_, _≤_}
 use native.Mathlib.Nat.{mod-lt}
 use mathlib.Core.List.{List, [], _∷_}
-use lib.ListN.{getD}
+use lib.ListN.{getD, take}
 use lib.Pow.{pow-pos, shr-lt, shr-shr, split}
 use Rattle.bits.specs.declared.Order.the-variants.{Little, Big}
+use Rattle.bits.specs.FieldLaws.{field-lt}
 use Rattle.words.specs.Eight.{eight, swapped}
 use Rattle.words.specs.EightLaws.{big8, little8}
 use Rattle.packing.specs.Packing.{bytesOf}
-use Rattle.packing.specs.BytesLaws.{bytes-field}
+use Rattle.packing.specs.BytesLaws.{bytes-field, bytes-first}
 
 -- lists of numbers below 2 ^ 8
 data Small : List ℕ → Type 0 where
@@ -62,3 +63,10 @@ module _ (x : ℕ) (h : x < 2 ^ 64) where
   -- the bytes of a word, the most significant first, are those of the swapped word, the least significant first
   pub bytes-swapped : bytesOf Little 8 0 (swapped x) ≡ bytesOf Big 8 0 x
   bytes-swapped = ap (bytesOf Little 8 0) (sym (little8 (down x) 0 down-small)) ∙ bytes-field Little (down x) down-small ∙ sym bytes-big
+
+  swapped-lt : swapped x < 2 ^ 64
+  swapped-lt = subst (λ (k : ℕ). k < 2 ^ 64) (little8 (down x) 0 down-small) (field-lt Little (down x) 0 64)
+
+  -- and so are the first k of them
+  pub first-swapped : (k : ℕ) → k ≤ 8 → bytesOf Little k (64 - 8 * k) (swapped x) ≡ bytesOf Big k (64 - 8 * k) x
+  first-swapped k l = bytes-first Little k l swapped-lt ∙ ap (take k) bytes-swapped ∙ sym (bytes-first Big k l h)

@@ -8,5 +8,6 @@ pub mod PutLaws
 pub mod StoryLaws
 pub mod HeldLaws
 pub mod PutWordLaws
+pub mod FrontLaws
 pub mod StretchLaws
 pub mod PutBytesLaws

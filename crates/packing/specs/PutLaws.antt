@@ -6,6 +6,7 @@ use native.Mathlib.Omega.{arith}
 use mathlib.Core.List.{List}
 use lib.ListN.{getD, length}
 use lib.Seq.{sets, length-sets}
+use lib.Pow.{pow-pos}
 use Rattle.bits.specs.declared.Order.{Order}
 use Rattle.bits.specs.Field.{join}
 use Rattle.bits.specs.Word.{first, rest}
@@ -67,22 +68,30 @@ module _ (o : Order) (c : State) (small : c .number < 2 ^ c .held) where
   unfolding put
   put-small n hv = rest-lt o (8 * full c n) (over c n) (gathered-lt n hv)
 
+  -- bits that fill no byte are held
+  module _ (n : ℕ) {v : ℕ} (l : c .held + n ≤ 7) (hv : v < 2 ^ n) where
+    none-full : c .held + n ≡ 8 * 0 + (c .held + n)
+    none-full = omega arith
+
+    pub put-held : put o c n v ≡ record { written = c .written; held = c .held + n; number = gathered o c n v }
+    put-held =
+        let e : rest o (8 * 0) (c .held + n) (gathered o c n v) ≡ gathered o c n v = rest-none o (c .held + n) (join-lt o (c .held) n small hv) in
+        put-is o c n v 0 (c .held + n) none-full l ∙ (λ i. record { written = add-zero (c .written) i; held = c .held + n; number = e i })
+
+    pub put-held-out : (s : List ℕ) → putOut o s c n v ≡ s
+    unfolding bytesOf
+    put-held-out s = put-out-is o c n v 0 (c .held + n) none-full l s
+
   -- no bits change nothing
   module _ (few : c .held ≤ 7) where
-    none-gathered : gathered o c 0 0 ≡ c .number
-    none-gathered = join-none o (c .held) (c .number)
-
-    none-sum : c .held + 0 ≡ 8 * 0 + c .held
-    none-sum = omega arith
+    none-more : c .held + 0 ≤ 7
+    none-more = omega arith
 
     pub put-none : put o c 0 0 ≡ c
-    put-none =
-        let e : rest o (8 * 0) (c .held) (gathered o c 0 0) ≡ c .number = ap (rest o 0 (c .held)) none-gathered ∙ rest-none o (c .held) small in
-        put-is o c 0 0 0 (c .held) none-sum few ∙ (λ i. record { written = add-zero (c .written) i; held = c .held; number = e i })
+    put-none = put-held 0 none-more (pow-pos 0) ∙ (λ i. record { written = c .written; held = add-zero (c .held) i; number = join-none o (c .held) (c .number) i })
 
     pub put-none-out : (s : List ℕ) → putOut o s c 0 0 ≡ s
-    unfolding bytesOf
-    put-none-out s = put-out-is o c 0 0 0 (c .held) none-sum few s
+    put-none-out s = put-held-out 0 none-more (pow-pos 0) s
 
 -- a bits x and then b bits y are a + b bits at once
 module _ (o : Order) (c : State) (small : c .number < 2 ^ c .held) (a b : ℕ) {x y : ℕ} (hx : x < 2 ^ a) (hy : y < 2 ^ b) where

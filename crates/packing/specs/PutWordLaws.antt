@@ -3,7 +3,6 @@ use mathlib.Core.Path.{_≡_, sym, ap, ap₂, _∙_, subst}
 use Prim.Native.Nat.{ℕ, _+_, _-_, _*_, _^_, _<_, _≤_}
 use native.Mathlib.Nat.{sub-add-cancel, add-sub-of-le}
 use native.Mathlib.Omega.{arith}
-use mathlib.Core.List.{append-nil}
 use lib.Pow.{pow-pos}
 use Rattle.bits.specs.declared.Order.{Order}
 use Rattle.bits.specs.Field.{join}
@@ -11,7 +10,7 @@ use Rattle.bits.specs.Word.{first, rest, skipped}
 use Rattle.bits.specs.JoinLaws.{join-lt, join-assoc, join-parts, first-join, rest-join, first-lt, rest-lt}
 use Rattle.bits.specs.WordLaws.{skipped-join}
 use Rattle.packing.specs.Packing.{bytesOf}
-use Rattle.packing.specs.BytesLaws.{bytes-append}
+use Rattle.packing.specs.BytesLaws.{bytes-longer}
 
 module _ (o : Order) (h : ℕ) {x v : ℕ} (few : h ≤ 64) (hx : x < 2 ^ h) (hv : v < 2 ^ 64) where
   cut : 64 - h + h ≡ 64
@@ -26,7 +25,7 @@ module _ (o : Order) (h : ℕ) {x v : ℕ} (few : h ≤ 64) (hx : x < 2 ^ h) (hv
   last-lt : rest o (64 - h) h v < 2 ^ h
   last-lt = rest-lt o (64 - h) h v-lt
 
-  word-lt : join o h (64 - h) x (first o (64 - h) h v) < 2 ^ 64
+  pub word-lt : join o h (64 - h) x (first o (64 - h) h v) < 2 ^ 64
   word-lt = subst (λ (k : ℕ). join o h (64 - h) x (first o (64 - h) h v) < 2 ^ k) (add-sub-of-le few) (join-lt o h (64 - h) hx front-lt)
 
   -- the bits held and the 64, as the word and the bits that stay
@@ -38,11 +37,14 @@ module _ (o : Order) (h : ℕ) {x v : ℕ} (few : h ≤ 64) (hx : x < 2 ^ h) (hv
       ∙ sym (join-assoc o h (64 - h) h x F y)
       ∙ ap (λ (k : ℕ). join o k h (join o h (64 - h) x F) y) (add-sub-of-le few)
 
-  pub word-bytes : bytesOf o 8 0 (join o h (64 - h) x (first o (64 - h) h v)) ≡ bytesOf o 8 h (join o h 64 x v)
-  unfolding bytesOf
-  word-bytes =
-      let e : 0 + h ≡ 8 * 0 + h = omega arith in
-      sym (ap (bytesOf o 8 h) regrouped ∙ bytes-append o 8 0 h 0 h e word-lt last-lt ∙ append-nil _)
+  -- the word's first k bytes
+  pub word-bytes : (k r : ℕ) → k ≤ 8 → r ≡ 64 - 8 * k + h → bytesOf o k (64 - 8 * k) (join o h (64 - h) x (first o (64 - h) h v)) ≡ bytesOf o k r (join o h 64 x v)
+  word-bytes k r l e =
+      let W : ℕ = join o h (64 - h) x (first o (64 - h) h v) in
+      let y : ℕ = rest o (64 - h) h v in
+      let f : 64 ≡ 8 * k + (64 - 8 * k) = omega arith in
+      sym (ap (bytesOf o k r) (regrouped ∙ ap (λ (m : ℕ). join o m h W y) f)
+      ∙ bytes-longer o k (64 - 8 * k) h r (sym e) (subst (λ (m : ℕ). W < 2 ^ m) f word-lt) last-lt)
 
   pub word-over : first o h (64 - h) (skipped o (64 - h) v) ≡ rest o 64 h (join o h 64 x v)
   word-over =

@@ -9,7 +9,7 @@ ghost use lib.Seq.{sets};
 ghost use Rattle.bits.specs.Refusals.{limit};
 ghost use Rattle.bits.specs.Field.{join};
 ghost use Rattle.bits.specs.Word.{rest};
-ghost use Rattle.packing.specs.Packing.{bitsWritten, belongs, Belongs, stateRefusal, bytesOf, put, putOut, putBytes, putBytesOut};
+ghost use Rattle.packing.specs.Packing.{bitsWritten, belongs, Belongs, stateRefusal, bytesOf, gathered, full, over, put, putOut, putBytes, putBytesOut};
 
 // Whether a writer belongs to an output of len bytes.
 fn is_of(len: usize, c: State) -> bool
@@ -22,7 +22,7 @@ fn is_of(len: usize, c: State) -> bool
     if len < c.written {
         return false;
     }
-    if 8 * len < 8 * c.written + c.held as usize {
+    if 8 * (len - c.written) < c.held as usize {
         return false;
     }
     c.number < 1 << c.held
@@ -42,80 +42,76 @@ pub fn refusal(len: usize, c: State) -> u32
     }
 }
 
-// The first n bytes of a word, stored from `at` on.
-fn store(order: Order, out: &mut [u8], at: usize, n: u32, word: u64)
+// The n low bytes of a word, the lowest first, stored from `at` on.
+fn store(out: &mut [u8], at: usize, n: u32, word: u64)
     requires { ⌜ (n ≤ 8) × (at + n ≤ length (now out)) ⌝ }
-    ensures { λ _. ⌜ now (out .exit) ≡ sets (now (out .entry)) at (bytesOf order n (64 - 8 * n) word) ⌝ }
+    ensures { λ _. ⌜ now (out .exit) ≡ sets (now (out .entry)) at (bytesOf Order.Little n (64 - 8 * n) word) ⌝ }
 {
+    let end = at + n as usize;
     let mut k = at;
-    let mut left = n;
     let mut v = word;
-    while 0 < left {
-        out[k] = bits::inner::first_bits(order, v, 8) as u8;
-        v = bits::inner::skip_bits(order, v, 8);
+    while k < end {
+        out[k] = (v % 256) as u8;
+        v = v / 256;
         k += 1;
-        left -= 1;
     }
 }
 
-// Up to 56 bits v behind those written: the bytes that are full now are stored.
-pub fn put_short(order: Order, out: &mut [u8], c: State, n: u32, v: u64) -> State
-    requires { ⌜ Belongs (length (now out)) c × (n ≤ 56) × (v < 2 ^ n) × (bitsWritten c + n ≤ 8 * length (now out)) ⌝ }
-    ensures answer { λ r. ⌜ r ≡ put order c n v ⌝ }
-    ensures memory { λ _. ⌜ now (out .exit) ≡ putOut order (now (out .entry)) c n v ⌝ }
+// The held bits, then n bits v, as a word: its low bytes, the lowest first, are those that are full now. What is over is cut off.
+fn front(order: Order, c: State, n: u32, v: u64) -> u64
+    requires { ⌜ (c .held ≤ 7) × (c .number < 2 ^ c .held) × (1 ≤ n) × (n ≤ 64) × (v < 2 ^ n) ⌝ }
+    ensures { λ r. ⌜ bytesOf Order.Little (full c n) (64 - 8 * full c n) r ≡ bytesOf order (full c n) (over c n) (gathered order c n v) ⌝ }
 {
-    let bits = c.held + n;
-    let full = bits / 8;
-    let word = bits::inner::hold_bits(
-        order,
-        bits::inner::join_bits(order, c.held, n, c.number, v),
-        bits,
-    );
-    store(order, out, c.written, full, word);
-    State {
-        written: c.written + full as usize,
-        held: bits % 8,
-        number: bits::inner::first_bits(
-            order,
-            bits::inner::skip_bits(order, word, 8 * full),
-            bits % 8,
+    match order {
+        Order::Little => (v << c.held) + c.number,
+        Order::Big => words::inner::swap8(
+            ((c.number << (63 - c.held)) << 1) + ((v << (64 - n)) >> c.held),
         ),
     }
 }
 
-// 57 to 64 bits: 56, then the others.
-pub fn put_wide(order: Order, out: &mut [u8], c: State, n: u32, v: u64) -> State
-    requires { ⌜ Belongs (length (now out)) c × (57 ≤ n) × (n ≤ 64) × (v < 2 ^ n) × (bitsWritten c + n ≤ 8 * length (now out)) ⌝ }
-    ensures answer { λ r. ⌜ r ≡ put order c n v ⌝ }
-    ensures memory { λ _. ⌜ now (out .exit) ≡ putOut order (now (out .entry)) c n v ⌝ }
+// The last b of a + b bits, a from 1 to 64.
+fn tail(order: Order, v: u64, a: u32, b: u32) -> u64
+    requires { ⌜ (1 ≤ a) × (a ≤ 64) × (b ≤ 63) ⌝ }
+    ensures { λ r. ⌜ r ≡ rest order a b v ⌝ }
 {
-    let more = n - 56;
-    let middle = put_short(
-        order,
-        out,
-        c,
-        56,
-        bits::inner::first_part(order, v, 56, more),
-    );
-    put_short(
-        order,
-        out,
-        middle,
-        more,
-        bits::inner::last_part(order, v, 56, more),
-    )
+    match order {
+        Order::Little => (v >> (a - 1)) >> 1,
+        Order::Big => v & ((1 << b) - 1),
+    }
 }
 
-// Up to 64 bits v behind those written.
+// Up to 64 bits v behind those written: the bytes that are full now are stored.
 pub fn put_bits(order: Order, out: &mut [u8], c: State, n: u32, v: u64) -> State
     requires { ⌜ Belongs (length (now out)) c × (n ≤ 64) × (v < 2 ^ n) × (bitsWritten c + n ≤ 8 * length (now out)) ⌝ }
     ensures answer { λ r. ⌜ r ≡ put order c n v ⌝ }
     ensures memory { λ _. ⌜ now (out .exit) ≡ putOut order (now (out .entry)) c n v ⌝ }
 {
-    if n <= 56 {
-        return put_short(order, out, c, n, v);
+    let bits = c.held + n;
+    if bits < 8 {
+        return State {
+            written: c.written,
+            held: bits,
+            number: bits::inner::join_bits(order, c.held, n, c.number, v),
+        };
     }
-    put_wide(order, out, c, n, v)
+    let full = bits / 8;
+    let over = bits % 8;
+    store(out, c.written, full, front(order, c, n, v));
+    State {
+        written: c.written + full as usize,
+        held: over,
+        number: tail(order, v, n - over, over),
+    }
+}
+
+// Up to 56 bits v behind those written.
+pub fn put_short(order: Order, out: &mut [u8], c: State, n: u32, v: u64) -> State
+    requires { ⌜ Belongs (length (now out)) c × (n ≤ 56) × (v < 2 ^ n) × (bitsWritten c + n ≤ 8 * length (now out)) ⌝ }
+    ensures answer { λ r. ⌜ r ≡ put order c n v ⌝ }
+    ensures memory { λ _. ⌜ now (out .exit) ≡ putOut order (now (out .entry)) c n v ⌝ }
+{
+    put_bits(order, out, c, n, v)
 }
 
 // The low n bits of a number.
@@ -190,7 +186,7 @@ fn put_shifted(order: Order, out: &mut [u8], c: State, src: &[u8]) -> State
     };
     while i < src.len() {
         let b = wide(src[i]);
-        next = put_short(order, out, next, 8, b);
+        next = put_bits(order, out, next, 8, b);
         i += 1;
     }
     next

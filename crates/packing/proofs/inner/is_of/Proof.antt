@@ -22,17 +22,14 @@ returns-2 c =
 mul-if3 : tie.Need-mul-if3
 mul-if3 c = search needs
 
-mul-if3-2 : tie.Need-mul-if3-2
-mul-if3-2 c = search needs
-
 cast-if3 : tie.Need-cast-if3
 cast-if3 c = search needs
 
-add-if3 : tie.Need-add-if3
-add-if3 c = search needs
-
 returns-3 : tie.Need-returns-3
-returns-3 c = let a = c .before .before .before .before .before .before .before .args in sym (past-the-end (a .len) (a .c) (c .if3 .taken))
+returns-3 c =
+    let a = c .before .before .before .before .before .before .before .args in
+    let l : 8 * a .len < bitsWritten (a .c) = omega arith in
+    sym (past-the-end (a .len) (a .c) l)
 
 cast-result : tie.Need-cast-result
 cast-result c = search needs
@@ -53,9 +50,7 @@ is-of-spec =
     returns
     returns-2
     mul-if3
-    mul-if3-2
     cast-if3
-    add-if3
     returns-3
     cast-result
     shl-result

@@ -113,8 +113,8 @@ shared-slice-read-wide c = omega arith
 wide-requires : tie.Need-wide-requires Inv-loop μ-loop Inv-loop2 μ-loop2
 wide-requires c κs = tt
 
-put-short-requires : tie.Need-put-short-requires Inv-loop μ-loop Inv-loop2 μ-loop2
-put-short-requires c κs =
+put-bits-requires : tie.Need-put-bits-requires Inv-loop μ-loop Inv-loop2 μ-loop2
+put-bits-requires c κs =
     let at-loop = c .before .before .before .before in
     let l = at-loop .loop2 in
     let r = ready (at-loop .before .before .before .before .before) (l .i) (l .out) (l .next) (done at-loop) (l .inv .0) in
@@ -133,7 +133,7 @@ loop2-again c =
     let a = one .before .before .before .args in
     let l = at-loop .loop2 in
     let b = c .before .before .before .before .wide in
-    let stored = c .before .before .put-short in
+    let stored = c .before .before .put-bits in
     let small = c .before .before .before .before .before .shared-slice-known2 .given (l .i) .fits in
     let byte = stretch-byte (a .order) (a .src .now) (l .i) (l .out) (l .next) small (b .result) (b .ensures) (stored .ensures .0) (stored .ensures .1) in
     (omega arith, stretch-join (a .order) (a .src .now) (one .loop .i) (one .loop .out) (writer one) (l .i) (l .out) (l .next) (l .inv .1) (ready1 one .0 .small) (l .i + 1) byte)
@@ -170,7 +170,7 @@ put-shifted-spec =
     loop2-holds
     shared-slice-read-wide
     wide-requires
-    put-short-requires
+    put-bits-requires
     add-i-2
     loop2-less
     loop2-again

@@ -50,7 +50,7 @@ returns c =
     let word : join-at .join-bits .result ≡ join o (a .h) (64 - a .h) (a .number) (first o (64 - a .h) (a .h) (a .v)) =
     join-at .join-bits .ensures ∙ ap (join o (a .h) (64 - a .h) (a .number)) (join-at .before .first-bits .ensures ∙ ap (λ (k : ℕ). first o (64 - a .h) k (a .v)) e) in (
       c .first-bits2 .ensures ∙ ap (first o (a .h) (64 - a .h)) (c .before .skip-bits .ensures) ∙ word-over o (a .h) l (s .pre .2) (s .fits .v .fits),
-      c .before .before .before .before .store-whole .ensures ∙ ap (sets (a .out .now) (a .at)) (ap (bytesOf o 8 0) word ∙ word-bytes o (a .h) l (s .pre .2) (s .fits .v .fits)),
+      c .before .before .before .before .store-whole .ensures ∙ ap (sets (a .out .now) (a .at)) (ap (bytesOf o 8 0) word ∙ word-bytes o (a .h) l (s .pre .2) (s .fits .v .fits) 8 (a .h) (omega arith) (omega arith)),
     )
 
 pub put-word-spec : {M : Type 1} → statement M

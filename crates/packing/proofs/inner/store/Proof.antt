@@ -1,60 +1,59 @@
 -- `store` meets its contract: what is still to be stored from here is what was to be stored at first (`store-step`). Assumes nothing.
-use mathlib.Core.Path.{_≡_, refl, sym, ap, ap₂, _∙_, subst}
-use Prim.Native.Nat.{ℕ, _+_, _-_, _*_, _^_, _<_, _≤_}
+use mathlib.Core.Path.{_≡_, refl, ap, _∙_}
+use Prim.Native.Nat.{ℕ, _+_, _-_, _*_, _/_, _%_, _^_, _<_, _≤_}
 use native.Mathlib.Omega.{arith}
 use lib.ListN.{length, set, length-set}
 use lib.Seq.{sets}
-use Rattle.bits.specs.JoinLaws.{first-lt}
+use Rattle.bits.specs.declared.Order.the-variants.{Little}
+use Rattle.bits.specs.Word.{first, skipped}
 use Rattle.packing.specs.Packing.{bytesOf}
 use Rattle.packing.specs.HeldLaws.{store-step}
 use Rattle.packing.proofs.inner.store.Statement.{statement}
 use Rattle.packing.proofs.inner.store.Tie as tie
 
 abbrev Inv-loop : tie.InvT-loop
-Inv-loop order out₀ at n word k₀ left₀ v₀ out k left v =
-    (left ≤ 8) × (k + left ≤ length out) × (length out ≡ length out₀) × (v < 2 ^ 64)
-    × (sets out k (bytesOf order left (64 - 8 * left) v) ≡ sets out₀ at (bytesOf order n (64 - 8 * n) word))
+Inv-loop out₀ at n word end k₀ v₀ out k v =
+    (k ≤ end) × (end - k ≤ 8) × (length out ≡ length out₀) × (v < 2 ^ 64)
+    × (sets out k (bytesOf Little (end - k) (64 - 8 * (end - k)) v) ≡ sets out₀ at (bytesOf Little n (64 - 8 * n) word))
 
 abbrev μ-loop : tie.MeasureT-loop
-μ-loop order out₀ at n word k₀ left₀ v₀ out k left v = left
+μ-loop out₀ at n word end k₀ v₀ out k v = end - k
+
+add-end : tie.Need-add-end Inv-loop μ-loop
+add-end c = omega arith
 
 loop-holds : tie.Need-loop-holds Inv-loop μ-loop
-loop-holds c = (omega arith, omega arith, refl, c .before .fits .word .fits, refl)
-
-first-bits-requires : tie.Need-first-bits-requires Inv-loop μ-loop
-first-bits-requires c κs = omega arith
+loop-holds c =
+    let a = c .args in
+    let e : a .at + a .n - a .at ≡ a .n = omega arith in
+    (omega arith, omega arith, refl, c .fits .word .fits, ap (λ (m : ℕ). sets (a .out .now) (a .at) (bytesOf Little m (64 - 8 * m) (a .word))) e)
 
 cast-out : tie.Need-cast-out Inv-loop μ-loop
-cast-out c =
-    let a = c .before .before .before .before .args in
-    record { fits = subst (λ (k : ℕ). k < 2 ^ 8) (sym (c .first-bits .ensures)) (first-lt (a .order) 8 56 (c .before .before .loop .inv .3)) }
+cast-out c = omega arith
 
 slice-write-out : tie.Need-slice-write-out Inv-loop μ-loop
 slice-write-out c = omega arith
 
-skip-bits-requires : tie.Need-skip-bits-requires Inv-loop μ-loop
-skip-bits-requires c κs = omega arith
-
 add-k : tie.Need-add-k Inv-loop μ-loop
 add-k c = omega arith
-
-sub-left : tie.Need-sub-left Inv-loop μ-loop
-sub-left c = omega arith
 
 loop-less : tie.Need-loop-less Inv-loop μ-loop
 loop-less c = omega arith
 
 loop-again : tie.Need-loop-again Inv-loop μ-loop
+unfolding first skipped
 loop-again c =
-    let o = c .before .before .before .before .before .args .order in
-    let l = c .before .before .before .loop in
-    let p : 0 < l .left = omega arith in (
+    let l = c .before .loop in
+    let a = c .before .before .args in
+    let left : ℕ = a .at + a .n - l .k in
+    let p : 0 < left = omega arith in
+    let e : a .at + a .n - (l .k + 1) ≡ left - 1 = omega arith in (
       omega arith,
-      simp length-set (omega arith),
-      length-set (l .out) (l .k) (c .before .first-bits .result) ∙ l .inv .2,
-      omega (arith, c .skip-bits .ok),
-      ap₂ (λ (b x : ℕ). sets (set (l .out) (l .k) b) (l .k + 1) (bytesOf o (l .left - 1) (64 - 8 * (l .left - 1)) x)) (c .before .first-bits .ensures) (c .skip-bits .ensures)
-          ∙ store-step o (l .out) (l .k) (l .left) (l .v) p (l .inv .0) (l .inv .3) ∙ l .inv .4,
+      omega arith,
+      length-set (l .out) (l .k) (l .v % 256) ∙ l .inv .2,
+      omega arith,
+      ap (λ (m : ℕ). sets (set (l .out) (l .k) (l .v % 256)) (l .k + 1) (bytesOf Little m (64 - 8 * m) (l .v / 256))) e
+          ∙ store-step Little (l .out) (l .k) left (l .v) p (l .inv .1) (l .inv .3) ∙ l .inv .4,
     )
 
 same-length : tie.Need-same-length Inv-loop μ-loop
@@ -64,8 +63,9 @@ returns : tie.Need-returns Inv-loop μ-loop
 unfolding bytesOf
 returns c =
     let l = c .before .loop in
-    let e : 0 ≡ l .left = omega arith in
-    ap (λ (n : ℕ). sets (l .out) (l .k) (bytesOf (c .before .before .before .args .order) n (64 - 8 * n) (l .v))) e ∙ l .inv .4
+    let a = c .before .before .args in
+    let e : 0 ≡ a .at + a .n - l .k = omega arith in
+    ap (λ (m : ℕ). sets (l .out) (l .k) (bytesOf Little m (64 - 8 * m) (l .v))) e ∙ l .inv .4
 
 pub store-spec : {M : Type 1} → statement M
 store-spec =
@@ -73,13 +73,11 @@ store-spec =
     (tie.spec
     Inv-loop
     μ-loop
+    add-end
     loop-holds
-    first-bits-requires
     cast-out
     slice-write-out
-    skip-bits-requires
     add-k
-    sub-left
     loop-less
     loop-again
     same-length
