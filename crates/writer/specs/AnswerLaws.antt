@@ -2,7 +2,8 @@
 use mathlib.Core.Path.{_≡_, refl, sym, ap, _∙_}
 use mathlib.Core.Bool.{Bool, true, false, cond, and-false}
 use mathlib.Core.List.{List}
-use Prim.Native.Nat.{ℕ, _+_, _*_, _^_, _<_, _≤_}
+use Prim.Native.Nat.{ℕ, _+_, _*_, _%_, _^_, _<_, _≤_}
+use native.Mathlib.Nat.{mod-one}
 use native.Mathlib.Omega.{arith}
 use lib.Dec.{ltb}
 use lib.IntN.{ℤ}
@@ -19,6 +20,7 @@ use Rattle.writer.specs.declared.Writer.{Writer}
 use Rattle.writer.specs.declared.Wrote.{Wrote}
 use Rattle.writer.specs.Writer.{stateIn, writerWith, bitsWritten, writerRefusal, roomRefusal, oversized, writeRefusal, signedRefusal, bytesRefusal, padding}
 use Rattle.writer.specs.Answers.{wrote, unless}
+use Rattle.writer.specs.WidthLaws.{fits-width}
 
 -- ---- tests that were passed
 
@@ -48,6 +50,11 @@ module _ (len : ℕ) (w : Writer) where
   write-passed n v z =
       let h = field-passed n z in
       (h .1, record { belongs = h .0; enough = room-enough n (passed (oversized n v) (omega arith) (h .2) .1) })
+
+  -- and the value fits a width that is not 0
+  pub write-fits : (n v : ℕ) → writeRefusal len w n v ≡ done → 1 ≤ n → v < 2 ^ 64 → v < 2 ^ n
+  unfolding writeRefusal
+  write-fits n v z some hv = let h = field-passed n z in fits-width n v some (h .1) hv (passed (oversized n v) (omega arith) (h .2) .0)
 
   pub signed-passed : (n : ℕ) (z : ℤ) → signedRefusal len w n z ≡ done → (n ≤ 64) × Room len w n
   unfolding signedRefusal
@@ -82,9 +89,18 @@ module _ (w : Writer) (s : List ℕ) {e r : ℕ} (told : r ≡ e) where
       → (_≡_ {A = Wrote} (record { refusal = r; writer = v }) (wrote e w c)) × (u ≡ unless e s t)
   answered z p f q = rw (← told, eq-eqb r 0 z) (ap (λ (x : Writer). record { refusal = r; writer = x }) (p ∙ ap writerWith f), q)
 
--- where no bit is held, there is nothing to pad
-pub flush-nothing : (o : Order) (s : List ℕ) (w : Writer) → Belongs (length s) (stateIn w) → w .held ≤ 0
-    → (w ≡ writerWith (put o (stateIn w) (padding w) 0)) × (s ≡ putOut o s (stateIn w) (padding w) 0)
-flush-nothing o s w h l =
-    let p : padding w ≡ 0 = omega arith in
-    rw p (ap writerWith (sym (put-none o (stateIn w) (h .small) (h .few))), sym (put-none-out o (stateIn w) (h .small) (h .few) s))
+-- no bits put leave writer and output as they came
+module _ (o : Order) (s : List ℕ) (w : Writer) (h : Belongs (length s) (stateIn w)) where
+  nothing-put : {n v : ℕ} → n ≡ 0 → v ≡ 0 → (stateIn w ≡ put o (stateIn w) n v) × (s ≡ putOut o s (stateIn w) n v)
+  nothing-put e f = rw (e, f) (sym (put-none o (stateIn w) (h .small) (h .few)), sym (put-none-out o (stateIn w) (h .small) (h .few) s))
+
+  -- at width 0
+  pub write-nothing : (n v : ℕ) → n ≡ 0 → (stateIn w ≡ put o (stateIn w) n (v % 2 ^ n)) × (s ≡ putOut o s (stateIn w) n (v % 2 ^ n))
+  write-nothing n v e = nothing-put e (ap (λ (k : ℕ). v % 2 ^ k) e ∙ mod-one v)
+
+  -- where no bit is held, so that there is nothing to pad
+  pub flush-nothing : w .held ≤ 0 → (w ≡ writerWith (put o (stateIn w) (padding w) 0)) × (s ≡ putOut o s (stateIn w) (padding w) 0)
+  flush-nothing l =
+      let e : padding w ≡ 0 = omega arith in
+      let p = nothing-put e refl in
+      (ap writerWith (p .0), p .1)

@@ -31,18 +31,12 @@ pub fn writer_with(state: State) -> Writer
     }
 }
 
-// Whether a value is at or above 2^n, n from 1 to 63.
+// Whether a value is at or above 2^n, which at n = 64 none is.
 fn too_large(value: u64, n: u32) -> bool
-    requires { ⌜ n ≤ 64 ⌝ }
+    requires { ⌜ (1 ≤ n) × (n ≤ 64) ⌝ }
     ensures { λ r. ⌜ r ≡ oversized n value ⌝ }
 {
-    if n == 0 {
-        return false;
-    }
-    if n == 64 {
-        return false;
-    }
-    1 << n <= value
+    1 < value >> (n - 1)
 }
 
 // 8 where n bits more do not fit the output.
@@ -50,7 +44,7 @@ pub fn room_refusal(len: usize, w: Writer, n: usize) -> u32
     requires { ⌜ Belongs len (stateIn w) × (n ≤ 134217728) ⌝ }
     ensures { λ r. ⌜ r ≡ roomRefusal len w n ⌝ }
 {
-    if 8 * len < 8 * w.written + w.held as usize + n {
+    if 8 * (len - w.written) < w.held as usize + n {
         refusals::NO_ROOM
     } else {
         refusals::DONE
@@ -67,6 +61,9 @@ pub fn write_refusal(len: usize, w: Writer, bits: u32, value: u64) -> u32
     }
     if 64 < bits {
         return refusals::TOO_WIDE;
+    }
+    if bits == 0 {
+        return refusals::DONE;
     }
     if too_large(value, bits) {
         return refusals::TOO_LARGE;

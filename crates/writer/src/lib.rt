@@ -149,14 +149,15 @@ impl Writer {
     {
         let refusal = inner::write_refusal(out.len(), self, bits, value);
         if refusal == refusals::DONE {
-            let low = packing::inner::low_bits(value, bits);
-            self = inner::writer_with(packing::inner::put_bits(
-                order,
-                out,
-                inner::state_in(self),
-                bits,
-                low,
-            ));
+            if bits != 0 {
+                self = inner::writer_with(packing::inner::put_bits(
+                    order,
+                    out,
+                    inner::state_in(self),
+                    bits,
+                    value,
+                ));
+            }
         }
         Wrote {
             refusal: refusal,
