@@ -162,14 +162,3 @@ pub fn field_at(order: Order, src: &[u8], place: usize, width: u32) -> u64
     let high = short_field(order, src, place + 56, more);
     bits::inner::join_bits(order, 56, more, low, high)
 }
-
-// The field of at most 64 bits at a place from whose byte on eight are there: no test of the end, but for a wide one.
-pub fn field_inside(order: Order, src: &[u8], place: usize, width: u32) -> u64
-    requires { ⌜ (width ≤ 64) × (place + width ≤ 8 * length (now src)) × (place / 8 + 8 ≤ length (now src)) × (length (now src) ≤ limit) ⌝ }
-    ensures { λ r. ⌜ r ≡ field order (now (src .entry)) place width ⌝ }
-{
-    if width <= 56 {
-        return whole_field(order, src, place, width);
-    }
-    field_at(order, src, place, width)
-}
