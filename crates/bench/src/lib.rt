@@ -65,6 +65,11 @@ pub extern "C" fn bench_write_big(out: &mut [u8], w: u32, values: &[u64]) -> u64
 }
 
 #[no_mangle]
+pub extern "C" fn bench_write_little(out: &mut [u8], w: u32, values: &[u64]) -> u64 {
+    writes::public(Order::Little, out, w, values)
+}
+
+#[no_mangle]
 pub extern "C" fn bench_write_record(out: &mut [u8], numbers: &[u64]) -> u64 {
     writes::records(out, numbers)
 }
@@ -91,11 +96,17 @@ pub extern "C" fn bench_run_little(src: &[u8], plan: &[u8], n: usize, results: &
     plans::runs(Order::Little, src, plan, n, results)
 }
 
-// Compiles a layout for the driver; the answer is the plan's length.
+// Compiles a layout; the answer is the plan's length.
 #[no_mangle]
 pub extern "C" fn bench_compile(layout: &[u8], plan: &mut [u8]) -> usize {
     let compiled = layout::compile(layout, plan);
     compiled.length
+}
+
+// Checks a plan; the answer is the refusal.
+#[no_mangle]
+pub extern "C" fn bench_check(plan: &[u8]) -> u32 {
+    layout::check(plan)
 }
 
 // ---- whole strips
@@ -110,6 +121,22 @@ pub extern "C" fn bench_read_strip(src: &[u8], numbers: &mut [u64]) -> usize {
 pub extern "C" fn bench_pack_strip(numbers: &[u64], n: usize, out: &mut [u8]) -> usize {
     let packed = strip::pack_strip(numbers, n, out);
     packed.length
+}
+
+// ---- whole texts
+
+// The refusal, and the text's length 32 bits up.
+#[no_mangle]
+pub extern "C" fn bench_list_text(strip: &[u8], out: &mut [u8]) -> u64 {
+    let listed = text::list_text(strip, out);
+    listed.refusal as u64 | (listed.length as u64) << 32
+}
+
+// The refusal, the number of a bad line 4 bits up, and the strip's length 32 bits up.
+#[no_mangle]
+pub extern "C" fn bench_pack_text(text: &[u8], out: &mut [u8]) -> u64 {
+    let packed = text::pack_text(text, out);
+    packed.refusal as u64 | (packed.line as u64) << 4 | (packed.length as u64) << 32
 }
 
 // ---- bytes

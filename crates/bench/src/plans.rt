@@ -9,14 +9,11 @@ ghost use lib.ListN.{length};
 ghost use Rattle.bits.specs.Refusals.{limit};
 ghost use Rattle.layout.specs.Layout.{itemsOf, isLayout, bitsOf};
 
-// The sum of the first n results.
-fn summed(results: &[u64], n: usize) -> u64 {
+// The sum of the results.
+fn summed(results: &[u64]) -> u64 {
     let mut sum: u64 = 0;
     let mut i = 0;
-    while i < n {
-        if results.len() <= i {
-            return sum;
-        }
+    while i < results.len() {
         sum = sum ^ results[i];
         i += 1;
     }
@@ -34,7 +31,7 @@ fn over(order: Order, src: &[u8], layout: &[u8], bits: usize, results: &mut [u64
     let mut sum: u64 = 0;
     while bits <= 8 * src.len() - place {
         place = plan::inner::fields(order, src, layout, place, results);
-        sum = sum ^ summed(results, layout.len() / 2);
+        sum = sum ^ summed(results);
     }
     sum
 }
@@ -71,7 +68,7 @@ pub fn runs(order: Order, src: &[u8], plan: &[u8], n: usize, results: &mut [u64]
             return sum;
         }
         cursor = ran.cursor;
-        sum = sum ^ summed(results, results.len());
+        sum = sum ^ summed(results);
         left -= 1;
     }
     sum

@@ -1,20 +1,18 @@
--- `summed` is safe: the index is tested before each read. Assumes nothing.
+-- `summed` is safe: the index stays inside the results. Assumes nothing.
 use Prim.Native.Nat.{_-_, _≤_}
+use lib.ListN.{length}
 use borrow.Author.Needs.{needs}
 use Rattle.bench.proofs.plans.summed.Statement.{statement}
 use Rattle.bench.proofs.plans.summed.Tie as tie
 
 abbrev Inv-loop : tie.InvT-loop
-Inv-loop results n sum₀ i₀ sum i = i ≤ n
+Inv-loop results sum₀ i₀ sum i = i ≤ length results
 
 abbrev μ-loop : tie.MeasureT-loop
-μ-loop results n sum₀ i₀ sum i = n - i
+μ-loop results sum₀ i₀ sum i = length results - i
 
 loop-holds : tie.Need-loop-holds Inv-loop μ-loop
 loop-holds c = search needs
-
-returns : tie.Need-returns Inv-loop μ-loop
-returns c = search needs
 
 mul-sum : tie.Need-mul-sum Inv-loop μ-loop
 mul-sum c = search needs
@@ -31,8 +29,8 @@ loop-less c = search needs
 loop-again : tie.Need-loop-again Inv-loop μ-loop
 loop-again c = search needs
 
-returns-2 : tie.Need-returns-2 Inv-loop μ-loop
-returns-2 c = search needs
+returns : tie.Need-returns Inv-loop μ-loop
+returns c = search needs
 
 pub summed-spec : {M : Type 1} → statement M
 summed-spec =
@@ -41,10 +39,9 @@ summed-spec =
     Inv-loop
     μ-loop
     loop-holds
-    returns
     mul-sum
     shared-slice-read-sum
     add-i
     loop-less
     loop-again
-    returns-2)
+    returns)
