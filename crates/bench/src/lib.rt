@@ -11,62 +11,62 @@ mod writes;
 
 #[no_mangle]
 pub extern "C" fn bench_read_38_big(src: &[u8], n: usize) -> u64 {
-    reads::public(Order::Big, src, 38, n)
+    reads::fixed_big(src, n)
 }
 
 #[no_mangle]
 pub extern "C" fn bench_read_38_little(src: &[u8], n: usize) -> u64 {
-    reads::public(Order::Little, src, 38, n)
+    reads::fixed_little(src, n)
 }
 
 #[no_mangle]
 pub extern "C" fn bench_read_big(src: &[u8], w: u32, n: usize) -> u64 {
-    reads::public(Order::Big, src, w, n)
+    reads::given_big(src, w, n)
 }
 
 #[no_mangle]
 pub extern "C" fn bench_read_little(src: &[u8], w: u32, n: usize) -> u64 {
-    reads::public(Order::Little, src, w, n)
+    reads::given_little(src, w, n)
 }
 
 #[no_mangle]
 pub extern "C" fn bench_inner_38_big(src: &[u8]) -> u64 {
-    reads::unchecked(Order::Big, src)
+    reads::unchecked_big(src)
 }
 
 #[no_mangle]
 pub extern "C" fn bench_inner_38_little(src: &[u8]) -> u64 {
-    reads::unchecked(Order::Little, src)
+    reads::unchecked_little(src)
 }
 
 #[no_mangle]
 pub extern "C" fn bench_place_38_big(src: &[u8]) -> u64 {
-    reads::by_place(Order::Big, src)
+    reads::places_big(src)
 }
 
 #[no_mangle]
 pub extern "C" fn bench_place_38_little(src: &[u8]) -> u64 {
-    reads::by_place(Order::Little, src)
+    reads::places_little(src)
 }
 
 #[no_mangle]
 pub extern "C" fn bench_write_38_big(out: &mut [u8], values: &[u64]) -> u64 {
-    writes::public(Order::Big, out, 38, values)
+    writes::fixed_big(out, values)
 }
 
 #[no_mangle]
 pub extern "C" fn bench_write_38_little(out: &mut [u8], values: &[u64]) -> u64 {
-    writes::public(Order::Little, out, 38, values)
+    writes::fixed_little(out, values)
 }
 
 #[no_mangle]
 pub extern "C" fn bench_write_big(out: &mut [u8], w: u32, values: &[u64]) -> u64 {
-    writes::public(Order::Big, out, w, values)
+    writes::given_big(out, w, values)
 }
 
 #[no_mangle]
 pub extern "C" fn bench_write_little(out: &mut [u8], w: u32, values: &[u64]) -> u64 {
-    writes::public(Order::Little, out, w, values)
+    writes::given_little(out, w, values)
 }
 
 #[no_mangle]
@@ -88,12 +88,12 @@ pub extern "C" fn bench_fields_little(src: &[u8], plan: &[u8], results: &mut [u6
 
 #[no_mangle]
 pub extern "C" fn bench_run_big(src: &[u8], plan: &[u8], n: usize, results: &mut [u64]) -> u64 {
-    plans::runs(Order::Big, src, plan, n, results)
+    plans::runs_big(src, plan, n, results)
 }
 
 #[no_mangle]
 pub extern "C" fn bench_run_little(src: &[u8], plan: &[u8], n: usize, results: &mut [u64]) -> u64 {
-    plans::runs(Order::Little, src, plan, n, results)
+    plans::runs_little(src, plan, n, results)
 }
 
 // Compiles a layout; the answer is the plan's length.
@@ -143,7 +143,7 @@ pub extern "C" fn bench_pack_text(text: &[u8], out: &mut [u8]) -> u64 {
 
 #[no_mangle]
 pub extern "C" fn bench_read_bytes_big(src: &[u8], skip: u32, buf: &mut [u8], times: usize) -> u64 {
-    bytes::reads(Order::Big, src, skip, buf, times)
+    bytes::reads_big(src, skip, buf, times)
 }
 
 #[no_mangle]
@@ -153,7 +153,7 @@ pub extern "C" fn bench_read_bytes_little(
     buf: &mut [u8],
     times: usize,
 ) -> u64 {
-    bytes::reads(Order::Little, src, skip, buf, times)
+    bytes::reads_little(src, skip, buf, times)
 }
 
 #[no_mangle]
@@ -163,7 +163,7 @@ pub extern "C" fn bench_write_bytes_big(
     buf: &[u8],
     times: usize,
 ) -> u64 {
-    bytes::writes(Order::Big, out, skip, buf, times)
+    bytes::writes_big(out, skip, buf, times)
 }
 
 #[no_mangle]
@@ -173,5 +173,5 @@ pub extern "C" fn bench_write_bytes_little(
     buf: &[u8],
     times: usize,
 ) -> u64 {
-    bytes::writes(Order::Little, out, skip, buf, times)
+    bytes::writes_little(out, skip, buf, times)
 }

@@ -1,4 +1,4 @@
-// Layouts read over and over, each from where the last ended.
+// Layouts read over and over, each from where the last ended. The order stands in the calls.
 use bits::Order;
 use bits::refusals;
 use reader::Cursor;
@@ -21,7 +21,7 @@ fn summed(results: &[u64]) -> u64 {
 }
 
 // A layout of `bits` bits by the inner runner, as often as the slice has it.
-fn over(order: Order, src: &[u8], layout: &[u8], bits: usize, results: &mut [u64]) -> u64
+fn over_big(src: &[u8], layout: &[u8], bits: usize, results: &mut [u64]) -> u64
     requires { ⌜ (length (now src) ≤ limit) × (isLayout (now layout) ≡ true) × (bitsOf (itemsOf (now layout)) ≡ bits) × (length (itemsOf (now layout)) ≤ length (now results)) ⌝ }
 {
     if bits == 0 {
@@ -30,10 +30,34 @@ fn over(order: Order, src: &[u8], layout: &[u8], bits: usize, results: &mut [u64
     let mut place = 0;
     let mut sum: u64 = 0;
     while bits <= 8 * src.len() - place {
-        place = plan::inner::fields(order, src, layout, place, results);
+        place = plan::inner::fields(Order::Big, src, layout, place, results);
         sum = sum ^ summed(results);
     }
     sum
+}
+
+fn over_little(src: &[u8], layout: &[u8], bits: usize, results: &mut [u64]) -> u64
+    requires { ⌜ (length (now src) ≤ limit) × (isLayout (now layout) ≡ true) × (bitsOf (itemsOf (now layout)) ≡ bits) × (length (itemsOf (now layout)) ≤ length (now results)) ⌝ }
+{
+    if bits == 0 {
+        return 0;
+    }
+    let mut place = 0;
+    let mut sum: u64 = 0;
+    while bits <= 8 * src.len() - place {
+        place = plan::inner::fields(Order::Little, src, layout, place, results);
+        sum = sum ^ summed(results);
+    }
+    sum
+}
+
+fn over(order: Order, src: &[u8], layout: &[u8], bits: usize, results: &mut [u64]) -> u64
+    requires { ⌜ (length (now src) ≤ limit) × (isLayout (now layout) ≡ true) × (bitsOf (itemsOf (now layout)) ≡ bits) × (length (itemsOf (now layout)) ≤ length (now results)) ⌝ }
+{
+    match order {
+        Order::Big => over_big(src, layout, bits, results),
+        Order::Little => over_little(src, layout, bits, results),
+    }
 }
 
 // A plan, checked and decoded once.
@@ -54,7 +78,7 @@ pub fn fields(order: Order, src: &[u8], plan: &[u8], results: &mut [u64]) -> u64
 }
 
 // A plan by the public call, n times or as often as the slice has its layout.
-pub fn runs(order: Order, src: &[u8], plan: &[u8], n: usize, results: &mut [u64]) -> u64 {
+pub fn runs_big(src: &[u8], plan: &[u8], n: usize, results: &mut [u64]) -> u64 {
     let mut cursor = Cursor {
         offset: 0,
         lookahead: 0,
@@ -63,7 +87,27 @@ pub fn runs(order: Order, src: &[u8], plan: &[u8], n: usize, results: &mut [u64]
     let mut sum: u64 = 0;
     let mut left = n;
     while 0 < left {
-        let ran = plan::run(cursor, order, src, plan, results);
+        let ran = plan::run(cursor, Order::Big, src, plan, results);
+        if ran.refusal != refusals::DONE {
+            return sum;
+        }
+        cursor = ran.cursor;
+        sum = sum ^ summed(results);
+        left -= 1;
+    }
+    sum
+}
+
+pub fn runs_little(src: &[u8], plan: &[u8], n: usize, results: &mut [u64]) -> u64 {
+    let mut cursor = Cursor {
+        offset: 0,
+        lookahead: 0,
+        register: 0,
+    };
+    let mut sum: u64 = 0;
+    let mut left = n;
+    while 0 < left {
+        let ran = plan::run(cursor, Order::Little, src, plan, results);
         if ran.refusal != refusals::DONE {
             return sum;
         }

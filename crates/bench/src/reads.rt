@@ -1,11 +1,12 @@
-// Fields of one width, one behind the other.
+// Fields of one width, one behind the other. Order and width stand in the calls, as they do in the Rust's loops, so each case has a loop of
+// its own.
 use bits::Order;
 use bits::refusals;
 use lookahead::State;
 use reader::Cursor;
 
-// n fields by the public call, or as many as there are.
-pub fn public(order: Order, src: &[u8], w: u32, n: usize) -> u64 {
+// n fields of 38 bits by the public call, or as many as there are.
+pub fn fixed_big(src: &[u8], n: usize) -> u64 {
     let mut cursor = Cursor {
         offset: 0,
         lookahead: 0,
@@ -14,7 +15,68 @@ pub fn public(order: Order, src: &[u8], w: u32, n: usize) -> u64 {
     let mut sum: u64 = 0;
     let mut left = n;
     while 0 < left {
-        let read = cursor.read_bits(order, src, w);
+        let read = cursor.read_bits(Order::Big, src, 38);
+        if read.refusal != refusals::DONE {
+            return sum;
+        }
+        cursor = read.cursor;
+        sum = sum ^ read.value;
+        left -= 1;
+    }
+    sum
+}
+
+pub fn fixed_little(src: &[u8], n: usize) -> u64 {
+    let mut cursor = Cursor {
+        offset: 0,
+        lookahead: 0,
+        register: 0,
+    };
+    let mut sum: u64 = 0;
+    let mut left = n;
+    while 0 < left {
+        let read = cursor.read_bits(Order::Little, src, 38);
+        if read.refusal != refusals::DONE {
+            return sum;
+        }
+        cursor = read.cursor;
+        sum = sum ^ read.value;
+        left -= 1;
+    }
+    sum
+}
+
+// The same of a width that is handed in.
+pub fn given_big(src: &[u8], w: u32, n: usize) -> u64 {
+    let mut cursor = Cursor {
+        offset: 0,
+        lookahead: 0,
+        register: 0,
+    };
+    let mut sum: u64 = 0;
+    let mut left = n;
+    while 0 < left {
+        let read = cursor.read_bits(Order::Big, src, w);
+        if read.refusal != refusals::DONE {
+            return sum;
+        }
+        cursor = read.cursor;
+        sum = sum ^ read.value;
+        left -= 1;
+    }
+    sum
+}
+
+pub fn given_little(src: &[u8], w: u32, n: usize) -> u64 {
+    let mut cursor = Cursor {
+        offset: 0,
+        lookahead: 0,
+        register: 0,
+    };
+    let mut sum: u64 = 0;
+    let mut left = n;
+    while 0 < left {
+        let read = cursor.read_bits(Order::Little, src, w);
         if read.refusal != refusals::DONE {
             return sum;
         }
@@ -26,7 +88,7 @@ pub fn public(order: Order, src: &[u8], w: u32, n: usize) -> u64 {
 }
 
 // Every field of 38 bits by the inner read, which tests nothing.
-pub fn unchecked(order: Order, src: &[u8]) -> u64 {
+pub fn unchecked_big(src: &[u8]) -> u64 {
     if refusals::LIMIT < src.len() {
         return 0;
     }
@@ -38,7 +100,27 @@ pub fn unchecked(order: Order, src: &[u8]) -> u64 {
     let mut sum: u64 = 0;
     let mut left = 8 * src.len() / 38;
     while 0 < left {
-        let taken = lookahead::inner::read_bits(order, src, state, 38);
+        let taken = lookahead::inner::read_bits(Order::Big, src, state, 38);
+        state = taken.state;
+        sum = sum ^ taken.value;
+        left -= 1;
+    }
+    sum
+}
+
+pub fn unchecked_little(src: &[u8]) -> u64 {
+    if refusals::LIMIT < src.len() {
+        return 0;
+    }
+    let mut state = State {
+        offset: 0,
+        lookahead: 0,
+        register: 0,
+    };
+    let mut sum: u64 = 0;
+    let mut left = 8 * src.len() / 38;
+    while 0 < left {
+        let taken = lookahead::inner::read_bits(Order::Little, src, state, 38);
         state = taken.state;
         sum = sum ^ taken.value;
         left -= 1;
@@ -47,7 +129,7 @@ pub fn unchecked(order: Order, src: &[u8]) -> u64 {
 }
 
 // Every field of 38 bits by its place.
-pub fn by_place(order: Order, src: &[u8]) -> u64 {
+pub fn places_big(src: &[u8]) -> u64 {
     if refusals::LIMIT < src.len() {
         return 0;
     }
@@ -55,7 +137,22 @@ pub fn by_place(order: Order, src: &[u8]) -> u64 {
     let mut sum: u64 = 0;
     let mut left = 8 * src.len() / 38;
     while 0 < left {
-        sum = sum ^ words::inner::field_at(order, src, place, 38);
+        sum = sum ^ words::inner::field_at(Order::Big, src, place, 38);
+        place += 38;
+        left -= 1;
+    }
+    sum
+}
+
+pub fn places_little(src: &[u8]) -> u64 {
+    if refusals::LIMIT < src.len() {
+        return 0;
+    }
+    let mut place = 0;
+    let mut sum: u64 = 0;
+    let mut left = 8 * src.len() / 38;
+    while 0 < left {
+        sum = sum ^ words::inner::field_at(Order::Little, src, place, 38);
         place += 38;
         left -= 1;
     }

@@ -1,11 +1,11 @@
-// Fields written one behind the other.
+// Fields written one behind the other; order and width stand in the calls.
 use bits::Order;
 use bits::refusals;
 use writer::Writer;
 use writer::Wrote;
 
-// The values as fields of one width by the public call; the answer is how many bytes are full.
-pub fn public(order: Order, out: &mut [u8], w: u32, values: &[u64]) -> u64 {
+// The values as fields of 38 bits by the public call; the answer is how many bytes are full.
+pub fn fixed_big(out: &mut [u8], values: &[u64]) -> u64 {
     let mut writer = Writer {
         written: 0,
         held: 0,
@@ -13,14 +13,75 @@ pub fn public(order: Order, out: &mut [u8], w: u32, values: &[u64]) -> u64 {
     };
     let mut i = 0;
     while i < values.len() {
-        let wrote = writer.write_bits(order, out, w, values[i]);
+        let wrote = writer.write_bits(Order::Big, out, 38, values[i]);
         if wrote.refusal != refusals::DONE {
             return 0;
         }
         writer = wrote.writer;
         i += 1;
     }
-    let last = writer.flush(order, out);
+    let last = writer.flush(Order::Big, out);
+    let end = last.writer;
+    end.written as u64
+}
+
+pub fn fixed_little(out: &mut [u8], values: &[u64]) -> u64 {
+    let mut writer = Writer {
+        written: 0,
+        held: 0,
+        number: 0,
+    };
+    let mut i = 0;
+    while i < values.len() {
+        let wrote = writer.write_bits(Order::Little, out, 38, values[i]);
+        if wrote.refusal != refusals::DONE {
+            return 0;
+        }
+        writer = wrote.writer;
+        i += 1;
+    }
+    let last = writer.flush(Order::Little, out);
+    let end = last.writer;
+    end.written as u64
+}
+
+// The same of a width that is handed in.
+pub fn given_big(out: &mut [u8], w: u32, values: &[u64]) -> u64 {
+    let mut writer = Writer {
+        written: 0,
+        held: 0,
+        number: 0,
+    };
+    let mut i = 0;
+    while i < values.len() {
+        let wrote = writer.write_bits(Order::Big, out, w, values[i]);
+        if wrote.refusal != refusals::DONE {
+            return 0;
+        }
+        writer = wrote.writer;
+        i += 1;
+    }
+    let last = writer.flush(Order::Big, out);
+    let end = last.writer;
+    end.written as u64
+}
+
+pub fn given_little(out: &mut [u8], w: u32, values: &[u64]) -> u64 {
+    let mut writer = Writer {
+        written: 0,
+        held: 0,
+        number: 0,
+    };
+    let mut i = 0;
+    while i < values.len() {
+        let wrote = writer.write_bits(Order::Little, out, w, values[i]);
+        if wrote.refusal != refusals::DONE {
+            return 0;
+        }
+        writer = wrote.writer;
+        i += 1;
+    }
+    let last = writer.flush(Order::Little, out);
     let end = last.writer;
     end.written as u64
 }

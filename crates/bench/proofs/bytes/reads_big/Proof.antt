@@ -1,16 +1,16 @@
--- `reads` is safe: the buffer keeps its length, and the count of times goes down. Assumes nothing.
+-- `reads_big` is safe: the buffer keeps its length, and the count of times goes down. Assumes nothing.
 use Prim.Native.Nat.{_-_}
 use mathlib.Core.Path.{_≡_}
 use lib.ListN.{length}
 use borrow.Author.Needs.{needs}
-use Rattle.bench.proofs.bytes.reads.Statement.{statement}
-use Rattle.bench.proofs.bytes.reads.Tie as tie
+use Rattle.bench.proofs.bytes.reads_big.Statement.{statement}
+use Rattle.bench.proofs.bytes.reads_big.Tie as tie
 
 abbrev Inv-loop : tie.InvT-loop
-Inv-loop order src skip buf₀ times cursor₀ sum₀ left₀ buf cursor sum left = length buf ≡ length buf₀
+Inv-loop src skip buf₀ times cursor₀ sum₀ left₀ buf cursor sum left = length buf ≡ length buf₀
 
 abbrev μ-loop : tie.MeasureT-loop
-μ-loop order src skip buf₀ times cursor₀ sum₀ left₀ buf cursor sum left = left
+μ-loop src skip buf₀ times cursor₀ sum₀ left₀ buf cursor sum left = left
 
 read-bits-requires : tie.Need-read-bits-requires Inv-loop μ-loop
 read-bits-requires c κs = search needs
@@ -45,8 +45,8 @@ same-length-2 c = search needs
 returns-2 : tie.Need-returns-2 Inv-loop μ-loop
 returns-2 c = search needs
 
-pub reads-spec : {M : Type 1} → statement M
-reads-spec =
+pub reads-big-spec : {M : Type 1} → statement M
+reads-big-spec =
     tie.close
     (tie.spec
     Inv-loop

@@ -1,16 +1,16 @@
--- `public` is safe: the index stays inside the values, and the output keeps its length. Assumes nothing.
+-- `given_big` is safe: the index stays inside the values, and the output keeps its length. Assumes nothing.
 use Prim.Native.Nat.{_-_, _≤_}
 use mathlib.Core.Path.{_≡_}
 use lib.ListN.{length}
 use borrow.Author.Needs.{needs}
-use Rattle.bench.proofs.writes.public.Statement.{statement}
-use Rattle.bench.proofs.writes.public.Tie as tie
+use Rattle.bench.proofs.writes.given_big.Statement.{statement}
+use Rattle.bench.proofs.writes.given_big.Tie as tie
 
 abbrev Inv-loop : tie.InvT-loop
-Inv-loop order out₀ w values writer₀ i₀ out writer i = (i ≤ length values) × (length out ≡ length out₀)
+Inv-loop out₀ w values writer₀ i₀ out writer i = (i ≤ length values) × (length out ≡ length out₀)
 
 abbrev μ-loop : tie.MeasureT-loop
-μ-loop order out₀ w values writer₀ i₀ out writer i = length values - i
+μ-loop out₀ w values writer₀ i₀ out writer i = length values - i
 
 loop-holds : tie.Need-loop-holds Inv-loop μ-loop
 loop-holds c = search needs
@@ -48,8 +48,8 @@ same-length-2 c = search needs
 returns-2 : tie.Need-returns-2 Inv-loop μ-loop
 returns-2 c = search needs
 
-pub public-spec : {M : Type 1} → statement M
-public-spec =
+pub given-big-spec : {M : Type 1} → statement M
+given-big-spec =
     tie.close
     (tie.spec
     Inv-loop

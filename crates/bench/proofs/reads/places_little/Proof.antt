@@ -1,15 +1,15 @@
--- `by_place` is safe: 38 bits lie behind the place for each field to come. Assumes nothing.
+-- `places_little` is safe: 38 bits lie behind the place for each field to come. Assumes nothing.
 use Prim.Native.Nat.{_+_, _-_, _*_, _≤_}
 use lib.ListN.{length}
 use borrow.Author.Needs.{needs}
-use Rattle.bench.proofs.reads.by_place.Statement.{statement}
-use Rattle.bench.proofs.reads.by_place.Tie as tie
+use Rattle.bench.proofs.reads.places_little.Statement.{statement}
+use Rattle.bench.proofs.reads.places_little.Tie as tie
 
 abbrev Inv-loop : tie.InvT-loop
-Inv-loop order src place₀ sum₀ left₀ place sum left = (length src ≤ 16777216) × (place + 38 * left ≤ 8 * length src)
+Inv-loop src place₀ sum₀ left₀ place sum left = (length src ≤ 16777216) × (place + 38 * left ≤ 8 * length src)
 
 abbrev μ-loop : tie.MeasureT-loop
-μ-loop order src place₀ sum₀ left₀ place sum left = left
+μ-loop src place₀ sum₀ left₀ place sum left = left
 
 returns : tie.Need-returns Inv-loop μ-loop
 returns c = search needs
@@ -38,8 +38,8 @@ loop-again c = search needs
 returns-2 : tie.Need-returns-2 Inv-loop μ-loop
 returns-2 c = search needs
 
-pub by-place-spec : {M : Type 1} → statement M
-by-place-spec =
+pub places-little-spec : {M : Type 1} → statement M
+places-little-spec =
     tie.close
     (tie.spec
     Inv-loop

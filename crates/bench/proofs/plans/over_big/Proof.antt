@@ -1,16 +1,16 @@
--- `over` is safe: the place stays inside the slice, and a whole layout lies behind it whenever it is read. Assumes nothing.
+-- `over_big` is safe: the place stays inside the slice, and a whole layout lies behind it whenever it is read. Assumes nothing.
 use Prim.Native.Nat.{_-_, _*_, _≤_}
 use mathlib.Core.Path.{_≡_}
 use lib.ListN.{length}
 use borrow.Author.Needs.{needs}
-use Rattle.bench.proofs.plans.over.Statement.{statement}
-use Rattle.bench.proofs.plans.over.Tie as tie
+use Rattle.bench.proofs.plans.over_big.Statement.{statement}
+use Rattle.bench.proofs.plans.over_big.Tie as tie
 
 abbrev Inv-loop : tie.InvT-loop
-Inv-loop order src layout bits results₀ place₀ sum₀ results place sum = (place ≤ 8 * length src) × (length results ≡ length results₀) × (1 ≤ bits)
+Inv-loop src layout bits results₀ place₀ sum₀ results place sum = (place ≤ 8 * length src) × (length results ≡ length results₀) × (1 ≤ bits)
 
 abbrev μ-loop : tie.MeasureT-loop
-μ-loop order src layout bits results₀ place₀ sum₀ results place sum = 8 * length src - place
+μ-loop src layout bits results₀ place₀ sum₀ results place sum = 8 * length src - place
 
 returns : tie.Need-returns Inv-loop μ-loop
 returns c = search needs
@@ -42,8 +42,8 @@ same-length c = search needs
 returns-2 : tie.Need-returns-2 Inv-loop μ-loop
 returns-2 c = search needs
 
-pub over-spec : {M : Type 1} → statement M
-over-spec =
+pub over-big-spec : {M : Type 1} → statement M
+over-big-spec =
     tie.close
     (tie.spec
     Inv-loop

@@ -1,16 +1,16 @@
--- `runs` is safe: the results keep their length, and the count goes down. Assumes nothing.
+-- `runs_big` is safe: the results keep their length, and the count goes down. Assumes nothing.
 use Prim.Native.Nat.{_-_}
 use mathlib.Core.Path.{_≡_}
 use lib.ListN.{length}
 use borrow.Author.Needs.{needs}
-use Rattle.bench.proofs.plans.runs.Statement.{statement}
-use Rattle.bench.proofs.plans.runs.Tie as tie
+use Rattle.bench.proofs.plans.runs_big.Statement.{statement}
+use Rattle.bench.proofs.plans.runs_big.Tie as tie
 
 abbrev Inv-loop : tie.InvT-loop
-Inv-loop order src plan n results₀ cursor₀ sum₀ left₀ results cursor sum left = length results ≡ length results₀
+Inv-loop src plan n results₀ cursor₀ sum₀ left₀ results cursor sum left = length results ≡ length results₀
 
 abbrev μ-loop : tie.MeasureT-loop
-μ-loop order src plan n results₀ cursor₀ sum₀ left₀ results cursor sum left = left
+μ-loop src plan n results₀ cursor₀ sum₀ left₀ results cursor sum left = left
 
 loop-holds : tie.Need-loop-holds Inv-loop μ-loop
 loop-holds c = search needs
@@ -42,8 +42,8 @@ same-length-2 c = search needs
 returns-2 : tie.Need-returns-2 Inv-loop μ-loop
 returns-2 c = search needs
 
-pub runs-spec : {M : Type 1} → statement M
-runs-spec =
+pub runs-big-spec : {M : Type 1} → statement M
+runs-big-spec =
     tie.close
     (tie.spec
     Inv-loop

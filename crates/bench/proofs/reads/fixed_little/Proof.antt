@@ -1,14 +1,14 @@
--- `public` is safe: the count goes down. Assumes nothing.
+-- `fixed_little` is safe: the count goes down. Assumes nothing.
 use Prim.Native.Nat.{_-_, _≤_}
 use borrow.Author.Needs.{needs}
-use Rattle.bench.proofs.reads.public.Statement.{statement}
-use Rattle.bench.proofs.reads.public.Tie as tie
+use Rattle.bench.proofs.reads.fixed_little.Statement.{statement}
+use Rattle.bench.proofs.reads.fixed_little.Tie as tie
 
 abbrev Inv-loop : tie.InvT-loop
-Inv-loop order src w n cursor₀ sum₀ left₀ cursor sum left = left ≤ n
+Inv-loop src n cursor₀ sum₀ left₀ cursor sum left = left ≤ n
 
 abbrev μ-loop : tie.MeasureT-loop
-μ-loop order src w n cursor₀ sum₀ left₀ cursor sum left = left
+μ-loop src n cursor₀ sum₀ left₀ cursor sum left = left
 
 loop-holds : tie.Need-loop-holds Inv-loop μ-loop
 loop-holds c = search needs
@@ -31,8 +31,8 @@ loop-again c = search needs
 returns-2 : tie.Need-returns-2 Inv-loop μ-loop
 returns-2 c = search needs
 
-pub public-spec : {M : Type 1} → statement M
-public-spec =
+pub fixed-little-spec : {M : Type 1} → statement M
+fixed-little-spec =
     tie.close
     (tie.spec
     Inv-loop
