@@ -11,14 +11,14 @@ function plain(n) {
 FILENAME == counts { count[$1] = $2; next }
 FNR == 1 {
     print "                                        ---- ns of an item ----     - instructions of an item -"
-    print "case                          item         ours     Rust  ratio        ours     Rust  ratio    aim"
+    print "case                            item       ours     Rust  ratio        ours     Rust  ratio    aim"
 }
 {
     split($0, p, "|"); k = 2 * (FNR - 1); aim = p[2]; items = p[6]
     ours = count[k]; rust = count[k + 1]
     timed = (p[5] != "-"); both = (p[5] != "0")
     counted = (ours > 0)
-    printf("%-29s %-8s %8s %8s %6s    %8s %8s %6s  %5s\n", p[1], p[7],
+    printf("%-31s %-6s %8s %8s %6s    %8s %8s %6s  %5s\n", p[1], p[7],
         timed ? plain(p[3]) : "-", timed && both ? plain(p[4]) : "-", timed && both ? ratio(p[5], aim) : "- ",
         counted ? plain(ours / items) : "-", counted && both ? plain(rust / items) : "-", counted && both ? ratio(ours / rust, aim) : "- ",
         (aim > 0) ? sprintf("%.2f", aim) : "-")
