@@ -1,25 +1,21 @@
 -- Words of 64 bits that hold a number of fewer bits, over the order: its bytes, and one byte stored.
 use mathlib.Core.Path.{_≡_, sym, ap, ap₂, _∙_, subst}
 use Prim.Native.Nat.{ℕ, zero, suc, _+_, _-_, _*_, _^_, _<_, _≤_}
-use native.Mathlib.Nat.{add-zero}
 use native.Mathlib.Numerals.{add-one}
 use native.Mathlib.Omega.{arith}
-use mathlib.Core.List.{List, append-nil}
+use mathlib.Core.List.{List}
 use lib.ListN.{set}
 use lib.Seq.{sets}
 use lib.Pow.{pow-pos}
 use Rattle.bits.specs.declared.Order.{Order}
-use Rattle.bits.specs.Field.{join}
 use Rattle.bits.specs.Word.{first, rest, held, skipped}
-use Rattle.bits.specs.JoinLaws.{join-lt, join-assoc, join-zeros, join-parts, first-join, first-lt, rest-lt}
+use Rattle.bits.specs.JoinLaws.{join-parts, first-lt, rest-lt}
 use Rattle.bits.specs.WordLaws.{skipped-join}
-use Rattle.packing.specs.declared.State.{State}
-use Rattle.packing.specs.Packing.{bytesOf, gathered, full, over}
+use Rattle.packing.specs.Packing.{bytesOf}
 use Rattle.packing.specs.BytesLaws.{bytes-longer}
-use Rattle.packing.specs.PutLaws.{gathered-lt}
 
 -- the word's first bytes are those of the number
-pub held-bytes : (o : Order) (n r : ℕ) {v : ℕ} → 8 * n + r ≤ 64 → v < 2 ^ (8 * n + r) → bytesOf o n (64 - 8 * n) (held o (8 * n + r) v) ≡ bytesOf o n r v
+held-bytes : (o : Order) (n r : ℕ) {v : ℕ} → 8 * n + r ≤ 64 → v < 2 ^ (8 * n + r) → bytesOf o n (64 - 8 * n) (held o (8 * n + r) v) ≡ bytesOf o n r v
 unfolding held
 held-bytes o n r h hv = bytes-longer o n r (64 - (8 * n + r)) (64 - 8 * n) (omega arith) hv (pow-pos (64 - (8 * n + r)))
 

@@ -9,8 +9,8 @@ use lib.Seq.{sets, length-sets}
 use lib.Pow.{pow-pos}
 use Rattle.bits.specs.declared.Order.{Order}
 use Rattle.bits.specs.Field.{join}
-use Rattle.bits.specs.Word.{first, rest}
-use Rattle.bits.specs.JoinLaws.{join-lt, join-assoc, join-none, join-parts, first-lt, rest-lt, rest-none}
+use Rattle.bits.specs.Word.{rest}
+use Rattle.bits.specs.JoinLaws.{join-lt, join-assoc, join-none, rest-lt, rest-none}
 use Rattle.packing.specs.declared.State.{State}
 use Rattle.packing.specs.Packing.{bitsWritten, Belongs, gathered, full, over, bytesOf, put, putOut}
 use Rattle.packing.specs.PartLaws.{rest-of-longer, rest-twice}
@@ -144,14 +144,6 @@ module _ (o : Order) (c : State) (small : c .number < 2 ^ c .held) (a b : ℕ) {
       ∙ ap (rest o (8 * n₂) r₂) (rest-of-longer o (8 * n₁) r₁ b (gathered-lt o c small a hx) hy) in
       (λ i. record { written = d i; held = r₂; number = sym left i })
       ∙ sym (put-is o c (a + b) (join o a b x y) (n₁ + n₂) r₂ count-sum over-few)
-
--- the first a of a + b bits, and then the others
-module _ (o : Order) (c : State) (small : c .number < 2 ^ c .held) (a b : ℕ) {v : ℕ} (hv : v < 2 ^ (a + b)) where
-  pub put-parts : put o (put o c a (first o a b v)) b (rest o a b v) ≡ put o c (a + b) v
-  put-parts = put-put o c small a b (first-lt o a b hv) (rest-lt o a b hv) ∙ ap (put o c (a + b)) (join-parts o a b v)
-
-  pub put-parts-out : (s : List ℕ) → putOut o (putOut o s c a (first o a b v)) (put o c a (first o a b v)) b (rest o a b v) ≡ putOut o s c (a + b) v
-  put-parts-out s = put-put-out o c small a b (first-lt o a b hv) (rest-lt o a b hv) s ∙ ap (putOut o s c (a + b)) (join-parts o a b v)
 
 -- a writer that belongs and has room belongs afterwards too
 pub put-belongs : (o : Order) (len : ℕ) (c : State) → Belongs len c → (n : ℕ) {v : ℕ} → bitsWritten c + n ≤ 8 * len → v < 2 ^ n → Belongs len (put o c n v)

@@ -1,6 +1,6 @@
 -- `read_n_bytes` meets its contract: a straddle of two neighbours, taken at the places that the order picks, is the field of eight bits
 -- between them (`straddled-field`). Assumes nothing.
-use mathlib.Core.Path.{_≡_, _∙_}
+use mathlib.Core.Path.{_∙_}
 use Prim.Native.Nat.{ℕ, _+_, _-_, _*_, _^_, _<_, _≤_}
 use native.Mathlib.Omega.{arith}
 use lib.ListN.{length, getD}
