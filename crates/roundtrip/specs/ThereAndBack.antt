@@ -1,109 +1,110 @@
--- The round trip holds: what was written and flushed is, in the written bytes, all entries as one number with zeros behind it.
-use Prim.Native.Nat.{ℕ, _+_, _*_, _/_, _≤_}
-use mathlib.Core.Path.{_≡_, sym, ap, ap₂, _∙_, subst}
-use mathlib.Core.List.{List, _∷_}
+-- The round trip holds: it is the mixed one, of unsigned fields alone.
+use Prim.Native.Nat.{ℕ, _+_, _*_, _<_, _≤_}
+use mathlib.Core.Path.{_≡_, refl, sym, ap, _∙_, subst}
+use mathlib.Core.List.{List, [], _∷_, map, map-map, map-id}
 use lib.ListN.{length, take}
-use lib.Seq.{length-take-le, getD-take}
-use native.Mathlib.Nat.{zero-add}
-use native.Mathlib.Omega.{arith}
 use Rattle.bits.specs.declared.Order.{Order}
 use Rattle.bits.specs.Refusals.{limit, done}
-use Rattle.bits.specs.Field.{field, join}
-use Rattle.bits.specs.JoinLaws.{none-join}
-use Rattle.bits.specs.FieldLaws.{field-same, bit-same}
-use Rattle.packing.specs.Packing.{Belongs, story}
-use Rattle.packing.specs.BelongsLaws.{belongs-refusal}
-use Rattle.packing.specs.StoryLaws.{story-aligned}
-use Rattle.reader.specs.ReadLaws.{fresh-done, fresh-belongs, fresh-place, fresh-left}
-use Rattle.reader.specs.Cursor.{place}
+use Rattle.bits.specs.Field.{field}
+use Rattle.reader.specs.declared.Cursor.{Cursor}
+use Rattle.reader.specs.Cursor.{place, bitsLeft}
 use Rattle.reader.specs.Answers as R
+use Rattle.reader.specs.Answers.{readOf}
 use Rattle.writer.specs.declared.Writer.{Writer}
-use Rattle.writer.specs.Writer.{stateIn, bitsWritten, writerRefusal, padding}
 use Rattle.writer.specs.Answers as W
-use Rattle.writer.specs.Answers.{flushOf, flushOut}
-use Rattle.writer.specs.WriteLaws.{new-done, new-belongs, new-written, new-story, Stored, flush-stored, flush-whole}
-use Rattle.roundtrip.specs.RoundTrip.{Entry, Fit, size, Written, writeAll, flushed, sent, bytes, back, RoundTrip}
-use Rattle.roundtrip.specs.WayOut.{pack, Went, all-written}
-use Rattle.roundtrip.specs.WayBack.{Came, all-read}
+use Rattle.writer.specs.Answers.{writeOf, writeOut}
+use Rattle.roundtrip.specs.RoundTrip.{Entry, Fit, none, more, size, Written, writeAll, flushed, sent, bytes, Back, readAll, back, RoundTrip}
+use Rattle.roundtrip.specs.Mixed as M
+use Rattle.roundtrip.specs.MixedTrip as T
 
--- ---- the written bytes alone
+-- a field as an item
+abbrev item : Entry → M.Item
+item e = M.unsigned (e .width) (e .value)
 
--- they are bytes of the output
-flush-within : (o : Order) (s : List ℕ) (w : Writer) → Belongs (length s) (stateIn w) → flushOf o (length s) w .writer .written ≤ length (flushOut o s w)
-flush-within o s w h =
-    let f : Stored o s w (padding w) 0 (flushOut o s w) (flushOf o (length s) w) = flush-stored o s w (belongs-refusal (length s) (stateIn w) h) in
-    omega (arith, f .belongs .within, f .same-length)
+-- ---- the same fit and size
 
--- after a flush, they are all that was written, and the padding
-record Alone (o : Order) (n pad x : ℕ) (b : List ℕ) : Type 0 where
-  pub short : length b ≤ limit
-  pub whole : 8 * length b ≡ n + pad
-  pub holds : field o b 0 (n + pad) ≡ join o n pad x 0
+fit-items : {es : List Entry} → Fit es → M.Fit (map item es)
+fit-items none = M.none
+fit-items (more a b r) = M.more (M.unsigned-fits a b) (fit-items r)
 
-alone : (o : Order) (s : List ℕ) (w : Writer) → Belongs (length s) (stateIn w)
-    → Alone o (bitsWritten w) (padding w) (story o s (stateIn w)) (take (flushOf o (length s) w .writer .written) (flushOut o s w))
-alone o s w h =
-    let z : writerRefusal (length s) w ≡ done = belongs-refusal (length s) (stateIn w) h in
-    let m : Writer = flushOf o (length s) w .writer in
-    let t : List ℕ = flushOut o s w in
-    let b : List ℕ = take (m .written) t in
-    let f : Stored o s w (padding w) 0 t (flushOf o (length s) w) = flush-stored o s w z in
-    let e : (m .held ≡ 0) × (m .number ≡ 0) = flush-whole o s w z in
-    let all : 8 * m .written ≡ bitsWritten w + padding w = omega (arith, f .written, e .0) in
-    let l : length b ≡ m .written = length-take-le (m .written) t (flush-within o s w h) in
-    record {
-      short = omega (arith, f .same-length, f .belongs .short);
-      whole = omega arith;
-      holds =
-          ap (field o b 0) (sym all)
-          ∙ field-same o b t 0 0 (8 * m .written) (λ k lt. bit-same o b t (0 + k) (getD-take (m .written) t ((0 + k) / 8) 0 (omega arith)))
-          ∙ sym (story-aligned o t (stateIn m) (e .0) (e .1))
-          ∙ f .stands;
-    }
+size-items : (n : ℕ) (es : List Entry) → M.size n (map item es) ≡ size es
+unfolding size M.size M.bits
+size-items n [] = refl
+size-items n (e ∷ es) = ap (λ (k : ℕ). e .width + k) (size-items (n + e .width) es)
+
+-- ---- the same is written
+
+write-items : (o : Order) (s : List ℕ) (w : Writer) (es : List Entry) → M.writeAll o s w (map item es) ≡ writeAll o s w es
+unfolding writeAll M.writeAll M.itemOf M.itemOut
+write-items o s w [] = refl
+write-items o s w (e ∷ es) =
+    let one = writeOf o (length s) w (e .width) (e .value) in
+    ap (λ (q : Written). record { refusals = one .refusal ∷ q .refusals; writer = q .writer; out = q .out })
+    (write-items o (writeOut o s w (e .width) (e .value)) (one .writer) es)
+
+sent-items : (o : Order) (s : List ℕ) (es : List Entry) → M.sent o s (map item es) ≡ sent o s es
+sent-items o s es = ap (flushed o) (write-items o s (W.newOf (length s) .writer) es)
+
+-- ---- the same is read
+
+-- what reading fields gave, as reading items gives it
+abbrev as-items : Back → M.Back
+as-items r = record { refusals = r .refusals; values = map M.number (r .values); cursor = r .cursor }
+
+read-items : (o : Order) (s : List ℕ) (c : Cursor) (es : List Entry)
+    → M.readAll o s c (map M.requestOf (map item es)) ≡ as-items (readAll o s c (map (λ (e : Entry). e .width) es))
+unfolding readAll M.readAll M.answerOf M.requestOf
+read-items o s c [] = refl
+read-items o s c (e ∷ es) =
+    let one = readOf o s c (e .width) in
+    ap (λ (r : M.Back). record { refusals = one .refusal ∷ r .refusals; values = M.number (one .value) ∷ r .values; cursor = r .cursor })
+    (read-items o s (one .cursor) es)
+
+bytes-items : (o : Order) (s : List ℕ) (es : List Entry) → M.carried o s (map item es) ≡ bytes o s es
+bytes-items o s es = ap (λ (q : Written). take (q .writer .written) (q .out)) (sent-items o s es)
+
+-- the number of a value
+unfoldable number-of : M.Value → ℕ
+number-of (M.number n) = n
+number-of (M.integer z) = 0
+number-of (M.list bs) = 0
 
 -- ---- the theorem
 
--- all entries by a fresh writer, before the flush
-abbrev unflushed : Order → List ℕ → List Entry → Written
-unflushed o s es = writeAll o s (W.newOf (length s) .writer) es
+pub sent-within : (o : Order) (s : List ℕ) (es : List Entry) → length s ≤ limit → Fit es → size es ≤ 8 * length s
+    → sent o s es .writer .written ≤ length (sent o s es .out)
+sent-within o s es short fit room =
+    subst (λ (q : Written). q .writer .written ≤ length (q .out)) (sent-items o s es)
+    (T.sent-within o s (map item es) short (fit-items fit) (subst (λ (k : ℕ). k ≤ 8 * length s) (sym (size-items 0 es)) room))
 
-module _ (o : Order) (s : List ℕ) (es : List Entry) (short : length s ≤ limit) (fit : Fit es) (room : size es ≤ 8 * length s) where
-  went : Went o s (W.newOf (length s) .writer) es (unflushed o s es)
-  went = all-written o s (W.newOf (length s) .writer) es (new-belongs (length s) short) fit (omega (arith, new-written (length s)))
-
-  -- the writer still belongs to the output
-  belongs : Belongs (length (unflushed o s es .out)) (stateIn (unflushed o s es .writer))
-  belongs = subst (λ (k : ℕ). Belongs k (stateIn (unflushed o s es .writer))) (sym (went .same-length)) (went .belongs)
-
-  pub sent-within : sent o s es .writer .written ≤ length (sent o s es .out)
-  unfolding flushed
-  sent-within = flush-within o (unflushed o s es .out) (unflushed o s es .writer) belongs
+-- reading items from the bytes b gave r
+record Home (o : Order) (es : List M.Item) (b : List ℕ) (r : M.Back) : Type 0 where
+  pub new-cursor : R.newOf b .refusal ≡ done
+  pub read : r .refusals ≡ map (λ (e : M.Item). done) es
+  pub values : r .values ≡ map M.valueOf es
+  pub few : bitsLeft b (r .cursor) < 8
+  pub zeros : field o b (place (r .cursor)) (bitsLeft b (r .cursor)) ≡ 0
 
 pub round-trip : RoundTrip
-unfolding flushed
+unfolding number-of M.valueOf
 round-trip o s es short fit room =
-    let fresh : Writer = W.newOf (length s) .writer in
-    let q : Written = unflushed o s es in
-    let n₀ : bitsWritten fresh ≡ 0 = new-written (length s) in
-    let g : Went o s fresh es q = went o s es short fit room in
-    let h : Belongs (length (q .out)) (stateIn (q .writer)) = belongs o s es short fit room in
-    let n : bitsWritten (q .writer) ≡ size es = g .written ∙ ap (λ (k : ℕ). k + size es) n₀ ∙ zero-add (size es) in
-    let x : story o (q .out) (stateIn (q .writer)) ≡ pack o es =
-    g .stands ∙ ap₂ (λ (i j : ℕ). join o i (size es) j (pack o es)) n₀ (new-story o s (length s)) ∙ none-join o (size es) (pack o es) in
-    let pad : ℕ = padding (q .writer) in
+    let xs : List M.Item = map item es in
     let b : List ℕ = bytes o s es in
-    let a : Alone o (size es) pad (pack o es) b =
-    subst (λ (k : ℕ). Alone o k pad (pack o es) b) n (subst (λ (k : ℕ). Alone o (bitsWritten (q .writer)) pad k b) x (alone o (q .out) (q .writer) h)) in
-    let came : Came o b pad es (back o s es) =
-    all-read o b (R.newOf b .cursor) pad es (fresh-belongs b (a .short) o) fit (fresh-left b ∙ a .whole)
-    (ap (λ (k : ℕ). field o b k (size es + pad)) (fresh-place b) ∙ a .holds) in
+    let m : M.Returned o s xs = T.mixed-round-trip o s xs short (fit-items fit) (subst (λ (k : ℕ). k ≤ 8 * length s) (sym (size-items 0 es)) room) in
+    let there : Home o xs (M.carried o s xs) (M.back o s xs) =
+    record { new-cursor = m .new-cursor; read = m .read; values = m .values; few = m .few; zeros = m .zeros } in
+    let home : Home o xs b (as-items (back o s es)) =
+    subst (Home o xs b) (read-items o b (R.newOf b .cursor) es)
+    (subst (λ (l : List ℕ). Home o xs l (M.readAll o l (R.newOf l .cursor) (map M.requestOf xs))) (bytes-items o s es) there) in
+    let all-done : map (λ (e : M.Item). done) xs ≡ map (λ (e : Entry). done) es = map-map (λ (e : M.Item). done) item es in
     record {
-      new-writer = new-done (length s) short;
-      written =
-          ap₂ (λ (k : ℕ) (ks : List ℕ). k ∷ ks) (flush-stored o (q .out) (q .writer) (belongs-refusal (length (q .out)) (stateIn (q .writer)) h) .accepted) (g .accepted);
-      new-cursor = fresh-done b (a .short);
-      read = came .accepted;
-      values = came .values;
-      few = omega (arith, came .left);
-      zeros = ap (field o b (place (back o s es .cursor))) (came .left) ∙ came .zeros;
+      new-writer = m .new-writer;
+      written = ap (λ (q : Written). q .refusals) (sym (sent-items o s es)) ∙ m .written ∙ ap (λ (l : List ℕ). done ∷ l) all-done;
+      new-cursor = home .new-cursor;
+      read = home .read ∙ all-done;
+      values =
+          sym (map-map number-of M.number (back o s es .values) ∙ map-id (back o s es .values))
+          ∙ ap (map number-of) (home .values) ∙ map-map number-of M.valueOf xs ∙ map-map (λ (e : M.Item). number-of (M.valueOf e)) item es;
+      few = home .few;
+      zeros = home .zeros;
     }
