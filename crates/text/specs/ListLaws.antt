@@ -1,5 +1,5 @@
 -- Laws of listed records: those of a strip, one line after the other, and the whole text put piece by piece.
-use Prim.Native.Nat.{ℕ, zero, suc, _+_, _-_, _<_, _≤_}
+use Prim.Native.Nat.{ℕ, zero, suc, _+_, _-_, _*_, _/_, _<_, _≤_}
 use mathlib.Core.Path.{_≡_, refl, sym, ap, _∙_}
 use mathlib.Core.Bool.{Bool, true, false, cond}
 use mathlib.Core.List.{List, [], _++_}
@@ -16,7 +16,7 @@ use Rattle.strip.specs.Strip.{allFit, recordsFrom, recordsOf, tailGood}
 use Rattle.strip.specs.FitLaws.{fits-one}
 use Rattle.packing.specs.StoredLaws.{sets-append}
 use Rattle.listing.specs.Listing.{lineOf, sizeOf}
-use Rattle.listing.specs.PieceLaws.{line-length}
+use Rattle.listing.specs.PieceLaws.{line-length, size-few}
 use Rattle.text.specs.Text.{header, badTail, listed, textOf}
 use Rattle.text.specs.HeaderLaws.{length-header, length-bad-tail}
 
@@ -75,6 +75,18 @@ next-put s p n i h l at =
     ∙ sym (sets-append (lineOf (recordAt s p)) b l at)
     ∙ ap (sets l at) (sym (next-left s p n i h))
 
+-- no line is above 41 bytes
+lines-few : (s : List ℕ) (p n : ℕ) → length (listed (recordsFrom s p n)) ≤ 41 * n
+unfolding listed recordsFrom
+lines-few s p zero = omega arith
+lines-few s p (suc n) =
+    let r = recordAt s p in
+    let l = length-append (lineOf r) (listed (recordsFrom s (p + recordBits) n)) in
+    let m = line-length r in
+    let few = size-few r (record-fits s p) in
+    let others = lines-few s (p + recordBits) n in
+    omega arith
+
 -- ---- the whole text
 
 -- what stands behind the lines
@@ -94,6 +106,14 @@ module _ (s : List ℕ) where
 
   pub bad-size : tailGood s ≡ false → 31 + length (listed (recordsOf s)) + 9 ≡ length (textOf s)
   bad-size e = let t = text-size in let u : length (tailOf (tailGood s)) ≡ 9 = rw e length-bad-tail in omega arith
+
+  -- at most 41 bytes a record, and 40 for the header and a bad tail
+  pub text-few : length (textOf s) ≤ 41 * (8 * length s / recordBits) + 40
+  text-few = by (tailGood s) refl
+    where
+      by : (good : Bool) → tailGood s ≡ good → length (textOf s) ≤ 41 * (8 * length s / recordBits) + 40
+      by true e = let few = lines-few s 0 (8 * length s / recordBits) in let n = good-size e in omega (arith, few, n)
+      by false e = let few = lines-few s 0 (8 * length s / recordBits) in let n = bad-size e in omega (arith, few, n)
 
   -- the header and the lines put one behind the other
   abbrev pub headPut : List ℕ → List ℕ

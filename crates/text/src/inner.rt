@@ -40,7 +40,7 @@ fn text_size(strip: &[u8]) -> usize
     size + 9
 }
 
-// The refusal number of listing into `len` bytes.
+// The refusal number of listing into `len` bytes. No line is above 41: where there is room for the longest, none is looked at.
 pub fn list_refusal(strip: &[u8], len: usize) -> u32
     ensures { λ r. ⌜ r ≡ listRefusal (now (strip .entry)) len ⌝ }
 {
@@ -49,6 +49,9 @@ pub fn list_refusal(strip: &[u8], len: usize) -> u32
     }
     if refusals::LIMIT < len {
         return refusals::TOO_LONG;
+    }
+    if 41 * (8 * strip.len() / 89) + 40 <= len {
+        return refusals::DONE;
     }
     if len < text_size(strip) {
         return refusals::NO_ROOM;
