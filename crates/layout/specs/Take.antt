@@ -1,14 +1,14 @@
 -- A step of the plan check that takes its refill along: the next take, and what the check is behind it.
-use Prim.Native.Nat.{ℕ, _-_, _<_, _≤_}
+use Prim.Native.Nat.{ℕ, _+_, _-_, _<_, _≤_}
 use mathlib.Core.Path.{_≡_}
-use mathlib.Core.Bool.{Bool, cond}
-use mathlib.Core.List.{List, _∷_}
-use lib.ListN.{length, drop}
-use lib.Dec.{eqb}
+use mathlib.Core.Bool.{Bool, cond, _&&_}
+use mathlib.Core.List.{List}
+use lib.ListN.{length, getD, drop}
+use lib.Dec.{eqb, leb}
 use Rattle.layout.specs.declared.inner.Take.{Take}
-use Rattle.layout.specs.Plan.{wide, ends, decode}
+use Rattle.layout.specs.Plan.{count, wide, ends, decode}
 use Rattle.layout.specs.Check.{endsWide, atField, inWide}
-use Rattle.layout.specs.CheckLaws.{closed}
+use Rattle.layout.specs.CheckLaws.{closed, atOn}
 
 -- the check at a field after a take b that leaves g bits
 abbrev pub atLeft : ℕ → ℕ → ℕ → List ℕ → Bool
@@ -25,3 +25,11 @@ pub record TakenAt (p : List ℕ) (i g : ℕ) (t : Take) : Type 0 where
   pub known : t .left ≤ 56
   pub at : (n : ℕ) → atField 0 g n (drop i p) ≡ atLeft (t .left) n (t .step) (drop (t .next) p)
   pub inside : (n : ℕ) → inWide 0 g n (drop i p) ≡ wideLeft (t .left) n (t .step) (drop (t .next) p)
+
+-- the take at step k, with h bits known, decides what the check at step i gives, with g known: k is i, or behind a refill at i
+pub record Ready (p : List ℕ) (i g k h : ℕ) : Type 0 where
+  pub there : k < length p
+  pub ahead : i ≤ k
+  pub known : h ≤ 56
+  pub goes : (n : ℕ) → atField 0 g n (drop i p) ≡ (leb (count (getD p k 0)) h && atOn h n (getD p k 0) (drop (k + 1) p))
+  pub same : decode 0 (drop i p) ≡ decode 0 (drop k p)

@@ -2,17 +2,21 @@
 use Prim.Native.Nat.{ℕ, _+_, _-_, _<_, _≤_}
 use mathlib.Core.Path.{_≡_, refl, ap, _∙_}
 use mathlib.Core.Bool.{Bool, true, false, cond, _&&_}
-use mathlib.Core.List.{List}
+use mathlib.Core.List.{List, _∷_}
+use native.Mathlib.Nat.{zero-add}
+use native.Mathlib.Numerals.{add-one}
 use native.Mathlib.Omega.{arith}
 use lib.ListN.{length, drop, getD}
-use lib.Dec.{eqb}
-use borrow.Author.Tests.{eqb-true, eq-eqb, ne-eqb, lt-leb}
+use lib.Dec.{eqb, leb}
+use lib.Seq.{drop-cons}
+use borrow.Author.Tests.{eqb-true, eq-eqb, ne-eqb, le-leb, lt-leb}
 use Rattle.layout.specs.declared.inner.Take.{Take}
-use Rattle.layout.specs.Plan.{count, refill, wide, ends}
+use Rattle.layout.specs.Layout.{item}
+use Rattle.layout.specs.Plan.{code, count, refill, wide, ends, decode}
 use Rattle.layout.specs.Check.{fits, atField, inWide}
-use Rattle.layout.specs.DecodeLaws.{ends-of}
-use Rattle.layout.specs.CheckLaws.{checked, closed, atOn, wideOn, checked-refill, closed-on, closed-full, at-index, at-end, wide-index, wide-end}
-use Rattle.layout.specs.Take.{atLeft, wideLeft, TakenAt}
+use Rattle.layout.specs.DecodeLaws.{ends-of, decode-end, decode-refill}
+use Rattle.layout.specs.CheckLaws.{checked, closed, atOn, wideOn, checked-refill, atOn-end, closed-on, closed-full, at-index, at-end, wide-index, wide-end}
+use Rattle.layout.specs.Take.{atLeft, wideLeft, TakenAt, Ready}
 use Rattle.layout.specs.TestLaws.{by-test}
 
 -- the take that there is, 0 if it does not fit, and what it leaves
@@ -132,3 +136,45 @@ module _ {p : List ℕ} {i g : ℕ} {t : Take} (taken : TakenAt p i g t) (n : �
 
   pub field-none : (t .step ≡ wide → ⊥) → ends (t .step) ≡ false → atField 0 g n (drop i p) ≡ false
   field-none w e = taken .at n ∙ rw (ne-eqb (t .step) wide w, e)
+
+-- ---- a take that is ready
+
+-- a take that reaches low fits if it is of at most g bits
+reaches : (low g b : ℕ) (on : Bool) → low ≤ count b → (fits low g b && on) ≡ (leb (count b) g && on)
+reaches low g b on h = rw (le-leb low (count b) h)
+
+module _ (p : List ℕ) (i g : ℕ) (h : i < length p) where
+  pub ready-plain : g ≤ 56 → (getD p i 0 ≡ refill → ⊥) → Ready p i g i g
+  ready-plain few z =
+      record {
+        there = h;
+        ahead = omega arith;
+        known = few;
+        goes = λ n. at-index 0 g n p i h ∙ take-plain 0 g _ _ _ z ∙ reaches 0 g (getD p i 0) _ (omega arith);
+        same = refl;
+      }
+
+  pub ready-late : getD p i 0 ≡ refill → i + 1 < length p → g < count (getD p (i + 1) 0) → Ready p i g (i + 1) 56
+  ready-late z k l =
+      record {
+        there = k;
+        ahead = omega arith;
+        known = omega arith;
+        goes =
+            λ n.
+            at-index 0 g n p i h ∙ checked-refill _ _ _ _ _ z refl ∙ at-index (g + 1) 56 n p (i + 1) k ∙ take-late (g + 1) 56 _ _ _ (omega arith)
+            ∙ reaches (g + 1) 56 (getD p (i + 1) 0) _ (omega arith);
+        same = rw (drop-cons p i 0 h, z) (decode-refill 0 _ ∙ rw add-one);
+      }
+
+module _ {p : List ℕ} {i g k h : ℕ} (ready : Ready p i g k h) (e : ends (getD p k 0) ≡ true) where
+  -- a take that fits and ends a field goes on at the next
+  pub ready-next : (n : ℕ) → count (getD p k 0) ≤ h → (n ≡ 0 → ⊥) → atField 0 g n (drop i p) ≡ atField 0 (h - count (getD p k 0)) (n - 1) (drop (k + 1) p)
+  ready-next n fit z =
+      let (one, two) = ends-of (getD p k 0) e in
+      ready .goes n ∙ rw (le-leb _ _ fit) (atOn-end h n (getD p k 0) (drop (k + 1) p) (λ w. omega arith) ∙ closed-on _ _ _ e z)
+
+  -- and the field is of its kind and count
+  pub ready-field : decode 0 (drop i p) ≡ item (code (getD p k 0) - 1) (count (getD p k 0)) ∷ decode 0 (drop (k + 1) p)
+  ready-field =
+      ready .same ∙ rw (drop-cons p k 0 (ready .there)) (decode-end 0 (getD p k 0) _ e ∙ rw (zero-add, add-one))

@@ -4,7 +4,7 @@ ghost use mathlib.Core.Path.{_≡_};
 ghost use mathlib.Core.Bool.{true, cond};
 ghost use mathlib.Core.List.{[], _∷_};
 ghost use Prim.Native.Nat.{_+_, _-_, _%_, _<_, _≤_};
-ghost use lib.ListN.{length, drop, set};
+ghost use lib.ListN.{length, getD, drop, set};
 ghost use lib.Seq.{sets};
 ghost use Rattle.layout.specs.Layout.{item, itemsOf, goodItem, goodItems, isLayout, bitsOf};
 ghost use Rattle.layout.specs.Plan.{count as count·of, ends as ends·of, takes, refilled, decode};
@@ -92,6 +92,16 @@ fn take_at(p: &[u8], i: usize, g: u32) -> Take
         };
     }
     taken(i + 1, b, 0, g)
+}
+
+// Whether there is a take at step i that wants a refill, with a known lookahead g.
+pub fn wanted(p: &[u8], i: usize, g: u32) -> bool
+    ensures { λ r. ⌜ (r ≡ true → (i < length (now (p .entry))) × (g < count·of (getD (now (p .entry)) i 0))) ⌝ }
+{
+    if i < p.len() {
+        return g < count(p[i]);
+    }
+    false
 }
 
 // At a field: from a step on, with a known lookahead and so many more fields allowed; it goes on as long as no wide field starts.

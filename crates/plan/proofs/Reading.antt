@@ -1,7 +1,6 @@
 -- Reading fields one after the other: what the fields that are left will give gives what all of them give. Assumes nothing.
 use Prim.Native.Nat.{ℕ, _+_, _<_, _≤_}
 use mathlib.Core.Path.{_≡_, refl, _∙_}
-use mathlib.Core.Bool.{true}
 use mathlib.Core.List.{List, [], _∷_}
 use native.Mathlib.Nat.{zero-add}
 use native.Mathlib.Numerals.{add-one}
@@ -10,26 +9,21 @@ use lib.ListN.{length, set, length-set}
 use lib.Seq.{sets}
 use Rattle.bits.specs.declared.Order.{Order}
 use Rattle.bits.specs.Field.{field}
-use Rattle.layout.specs.Layout.{Item, goodItems, bitsOf}
-use Rattle.layout.specs.LayoutLaws.{good-of}
+use Rattle.layout.specs.Layout.{Item, bitsOf}
 use Rattle.plan.specs.Run.{patternOf, valuesOf}
 
 -- the fields fs are left, the first of them at place at, and its pattern is result j of out
 pub record Left (o : Order) (s : List ℕ) (p : ℕ) (all : List Item) (out₀ : List ℕ) (fs : List Item) (at j : ℕ) (out : List ℕ) : Type 0 where
-  pub good : goodItems fs ≡ true
   pub ends : at + bitsOf fs ≡ p + bitsOf all
   pub many : j + length fs ≡ length all
   pub made : sets out j (valuesOf o s at fs) ≡ sets out₀ 0 (valuesOf o s p all)
   pub size : length out ≡ length out₀
 
 module _ {o : Order} {s : List ℕ} {p : ℕ} {all : List Item} {out₀ : List ℕ} where
-  pub start : goodItems all ≡ true → Left o s p all out₀ all p 0 out₀
-  start e = record { good = e; ends = refl; many = zero-add _; made = refl; size = refl }
+  pub start : Left o s p all out₀ all p 0 out₀
+  start = record { ends = refl; many = zero-add _; made = refl; size = refl }
 
   module _ {f : Item} {fs : List Item} {at j : ℕ} {out : List ℕ} (left : Left o s p all out₀ (f ∷ fs) at j out) where
-    pub width : f .width ≤ 64
-    width = good-of f fs (left .good) .1
-
     pub inside : at + f .width ≤ p + bitsOf all
     unfolding bitsOf
     inside = omega (arith, left .ends)
@@ -41,7 +35,6 @@ module _ {o : Order} {s : List ℕ} {p : ℕ} {all : List Item} {out₀ : List �
     unfolding bitsOf valuesOf
     next =
         record {
-          good = good-of f fs (left .good) .2;
           ends = omega (arith, left .ends);
           many = omega (arith, left .many);
           made = rw add-one (left .made);

@@ -1,6 +1,6 @@
 -- Laws of runs: what decides their refusal, what one that is not refused may rely on, and the answer either way.
 use Prim.Native.Nat.{ℕ, _+_, _*_, _<_, _≤_}
-use mathlib.Core.Path.{_≡_, refl, _∙_}
+use mathlib.Core.Path.{_≡_, refl, sym, _∙_}
 use mathlib.Core.Bool.{true, false, cond}
 use mathlib.Core.List.{List}
 use native.Mathlib.Omega.{arith}
@@ -57,6 +57,15 @@ module _ (s : List ℕ) (c : Cursor) (plan : List ℕ) (room : ℕ) where
     pub bits-decide : length (fieldsOf plan) ≤ room → {x : ℕ} → x ≡ cond (ltb (bitsLeft s c) (bitsOf (fieldsOf plan))) tooFew done → x ≡ planRefusal s c plan room
     unfolding planRefusal
     bits-decide h p = rw e (test-passes h _ p)
+
+-- nothing is refused where the cursor belongs, the plan is one, and there are room and bits
+pub not-refused :
+    (o : Order) (s : List ℕ) (c : Cursor) (plan : List ℕ) (room : ℕ) → length plan ≤ limit → cursorRefusal o s c ≡ done → isPlan plan ≡ true →
+    length (fieldsOf plan) ≤ room → place c + bitsOf (fieldsOf plan) ≤ 8 * length s → runRefusal o s c plan room ≡ done
+not-refused o s c plan room short own e fits inside =
+    let h = refusal-belongs o s (stateIn c) own in
+    let enough : bitsOf (fieldsOf plan) ≤ bitsLeft s c = omega (arith, left-place (h .within)) in
+    sym (plan-decides s c plan room o short own (bits-decide s c plan room e fits (test-passes enough _ refl)))
 
 -- ---- what a run that is not refused may rely on
 

@@ -1,6 +1,6 @@
 -- Laws of the values of fields, and of a list that values were put at the front of.
 use Prim.Native.Nat.{ℕ, zero, suc, _+_, _^_, _<_, _≤_}
-use mathlib.Core.Path.{_≡_, refl, ap, _∙_}
+use mathlib.Core.Path.{_≡_, refl, ap, ap₂, _∙_}
 use mathlib.Core.List.{List, [], _∷_, _++_}
 use native.Mathlib.Nat.{zero-add, add-zero, add-assoc}
 use native.Mathlib.Omega.{arith}
@@ -28,6 +28,10 @@ module _ (xs l : List ℕ) (h : length xs ≤ length l) where
 
   pub front-at : (i : ℕ) → i < length xs → getD (sets l 0 xs) i 0 ≡ getD xs i 0
   front-at i k = ap (λ (r : List ℕ). getD r i 0) front ∙ List·getD-append xs _ 0 i k
+
+-- values that were put at the front of a list, put at another's
+pub front-put : (l zeros xs : List ℕ) {v : List ℕ} {n : ℕ} → v ≡ sets zeros 0 xs → n ≡ length xs → length xs ≤ length zeros → sets l 0 (take n v) ≡ sets l 0 xs
+front-put l zeros xs p q h = ap (sets l 0) (ap₂ take q p ∙ front-take xs zeros h)
 
 -- ---- values
 

@@ -6,11 +6,12 @@ ghost use mathlib.Core.Path.{_≡_};
 ghost use mathlib.Core.Bool.{true, cond};
 ghost use mathlib.Core.List.{[], _∷_};
 ghost use Prim.Native.Nat.{_+_, _-_, _*_, _^_, _<_, _≤_};
-ghost use lib.ListN.{length};
+ghost use lib.ListN.{length, take};
 ghost use lib.Seq.{sets};
-ghost use Rattle.bits.specs.Refusals.{limit};
+ghost use Rattle.bits.specs.Refusals.{limit, done};
 ghost use Rattle.bits.specs.Field.{field};
 ghost use Rattle.bits.specs.Signed.{signed, pattern as pattern·of};
+ghost use Rattle.reader.specs.Cursor.{place as place·of};
 ghost use Rattle.layout.specs.Layout.{itemsOf, bytesOf, isLayout, bitsOf};
 ghost use Rattle.layout.specs.Plan.{ends, code};
 ghost use Rattle.layout.specs.Check.{isPlan};
@@ -151,4 +152,117 @@ pub fn run_plan(order: Order, src: &[u8], plan: &[u8], place: usize, results: &m
     let mut space = [0u8; 128];
     let n = decode(plan, &mut space);
     fields(order, src, &space[..n], place, results)
+}
+
+// ---- in one go
+
+// What one go through a plan gives: how many fields were read, 65 if it did not get through, and where the last one ends.
+pub struct Narrow {
+    pub fields: usize,
+    pub end: usize,
+}
+
+// One that did not get through.
+fn not_narrow() -> Narrow
+    ensures { λ r. ⌜ r .fields ≡ 65 ⌝ }
+{
+    Narrow { fields: 65, end: 0 }
+}
+
+// Checks a plan and reads its fields in one go, if none is wide.
+fn read_narrow(order: Order, src: &[u8], plan: &[u8], place: usize, values: &mut [u64]) -> Narrow
+    requires { ⌜ (length (now src) ≤ limit) × (length (now plan) ≤ 256) × (place + 64 * length (now plan) + 64 ≤ 8 * length (now src)) × (64 ≤ length (now values)) ⌝ }
+    ensures answer { λ r. ⌜ (r .fields ≤ 64 → (isPlan (now (plan .entry)) ≡ true) × (r .fields ≡ length (fieldsOf (now (plan .entry)))) × (r .end ≡ place + bitsOf (fieldsOf (now (plan .entry)))) × (r .end ≤ 8 * length (now (src .entry)))) ⌝ }
+    ensures memory { λ r. ⌜ (r .fields ≤ 64 → now (values .exit) ≡ sets (now (values .entry)) 0 (valuesOf order (now (src .entry)) place (fieldsOf (now (plan .entry))))) ⌝ }
+{
+    let mut at = place;
+    let mut i: usize = 0;
+    let mut j: usize = 0;
+    let mut g: u32 = 0;
+    while i < plan.len() {
+        if plan[i] == 0 {
+            if layout::inner::wanted(plan, i + 1, g) {
+                i += 1;
+                g = 56;
+            } else {
+                return not_narrow();
+            }
+        }
+        let b = plan[i];
+        let w = layout::inner::count(b);
+        if g < w {
+            return not_narrow();
+        }
+        if layout::inner::ends(b) {
+            if j == 64 {
+                return not_narrow();
+            }
+            values[j] = pattern(b / 64 - 1, w, words::inner::whole_field(order, src, at, w));
+            at += w as usize;
+            i += 1;
+            g -= w;
+            j += 1;
+        } else {
+            return not_narrow();
+        }
+    }
+    Narrow { fields: j, end: at }
+}
+
+// Puts the first n values at the front of the results.
+fn put_front(results: &mut [u64], values: &[u64], n: usize)
+    requires { ⌜ (n ≤ length (now results)) × (n ≤ length (now values)) ⌝ }
+    ensures { λ _. ⌜ now (results .exit) ≡ sets (now (results .entry)) 0 (take n (now (values .entry))) ⌝ }
+{
+    let mut i: usize = 0;
+    while i < n {
+        results[i] = values[i];
+        i += 1;
+    }
+}
+
+// Runs a plan in one go, if no field is wide and there is room; else nothing is put.
+fn run_narrow(order: Order, src: &[u8], plan: &[u8], place: usize, results: &mut [u64]) -> Narrow
+    requires { ⌜ (length (now src) ≤ limit) × (length (now plan) ≤ 256) × (place + 64 * length (now plan) + 64 ≤ 8 * length (now src)) ⌝ }
+    ensures answer { λ r. ⌜ (r .fields ≤ 64 → (isPlan (now (plan .entry)) ≡ true) × (length (fieldsOf (now (plan .entry))) ≤ length (now (results .entry))) × (r .end ≡ place + bitsOf (fieldsOf (now (plan .entry)))) × (r .end ≤ 8 * length (now (src .entry)))) ⌝ }
+    ensures memory { λ r. ⌜ (r .fields ≤ 64 → now (results .exit) ≡ sets (now (results .entry)) 0 (valuesOf order (now (src .entry)) place (fieldsOf (now (plan .entry))))) × (64 < r .fields → now (results .exit) ≡ now (results .entry)) ⌝ }
+{
+    let mut values = [0u64; 64];
+    let read = read_narrow(order, src, plan, place, &mut values);
+    if read.fields <= 64 {
+        if read.fields <= results.len() {
+            put_front(results, &values, read.fields);
+            return read;
+        }
+    }
+    not_narrow()
+}
+
+// Runs a plan from a cursor on in one go, if no field is wide, nothing is refused, and the slice goes on behind it; else nothing is
+// put. (One call for each order, so that the compiler leaves the loop out of line and splits it.)
+pub fn run_quick(
+    cursor: Cursor,
+    order: Order,
+    src: &[u8],
+    plan: &[u8],
+    results: &mut [u64],
+) -> Narrow
+    ensures answer { λ r. ⌜ (r .fields ≤ 64 → (runRefusal order (now (src .entry)) cursor (now (plan .entry)) (length (now (results .entry))) ≡ done) × (r .end ≡ place·of cursor + bitsOf (fieldsOf (now (plan .entry))))) ⌝ }
+    ensures memory { λ r. ⌜ (r .fields ≤ 64 → now (results .exit) ≡ sets (now (results .entry)) 0 (valuesOf order (now (src .entry)) (place·of cursor) (fieldsOf (now (plan .entry))))) × (64 < r .fields → now (results .exit) ≡ now (results .entry)) ⌝ }
+{
+    if 256 < plan.len() {
+        return not_narrow();
+    }
+    let refusal = lookahead::inner::refusal(order, src, reader::inner::state_in(cursor));
+    if refusal != refusals::DONE {
+        return not_narrow();
+    }
+    let place = 8 * cursor.offset - cursor.lookahead as usize;
+    if 8 * src.len() < place + 64 * plan.len() + 64 {
+        return not_narrow();
+    }
+    match order {
+        Order::Little => run_narrow(Order::Little, src, plan, place, results),
+        Order::Big => run_narrow(Order::Big, src, plan, place, results),
+    }
 }

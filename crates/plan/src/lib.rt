@@ -15,6 +15,13 @@ pub fn run(cursor: Cursor, order: Order, src: &[u8], plan: &[u8], results: &mut 
     ensures answer { λ r. ⌜ r ≡ runOf order (now (src .entry)) cursor (now (plan .entry)) (length (now (results .entry))) ⌝ }
     ensures memory { λ _. ⌜ now (results .exit) ≡ runOut order (now (src .entry)) cursor (now (plan .entry)) (now (results .entry)) ⌝ }
 {
+    let quick = inner::run_quick(cursor, order, src, plan, results);
+    if quick.fields <= 64 {
+        return Moved {
+            refusal: refusals::DONE,
+            cursor: reader::inner::cursor_at(order, src, quick.end),
+        };
+    }
     let refusal = inner::run_refusal(cursor, order, src, plan, results.len());
     if refusal != refusals::DONE {
         return Moved {

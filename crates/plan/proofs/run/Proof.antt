@@ -1,26 +1,75 @@
--- `run` meets its contract: it reads only if nothing is refused, and then every field from the cursor's place on. Assumes nothing.
-use Prim.Native.Nat.{ℕ}
-use mathlib.Core.Path.{sym, ap, _∙_}
+-- `run` meets its contract: in one go where `run_quick` gets through; else it reads only if nothing is refused, and then every field from
+-- the cursor's place on. Assumes nothing.
+use Prim.Native.Nat.{ℕ, _+_}
+use mathlib.Core.Path.{_≡_, refl, sym, ap, _∙_}
+use mathlib.Core.List.{List}
 use native.Mathlib.Omega.{arith}
 use lib.ListN.{length}
+use lib.Seq.{sets}
+use Rattle.bits.specs.Refusals.{done}
 use Rattle.counts.specs.Counts.{countsAt}
-use Rattle.reader.specs.Cursor.{cursorAt}
+use Rattle.reader.specs.Cursor.{place, cursorAt}
+use Rattle.layout.specs.Layout.{bitsOf}
+use Rattle.plan.specs.Run.{valuesOf, fieldsOf, runRefusal}
 use Rattle.plan.specs.RunLaws.{Granted, granted, run-refused, run-done}
 use borrow.Author.Needs.{needs}
 use Rattle.plan.proofs.run.Statement.{statement}
 use Rattle.plan.proofs.run.Tie as tie
 
+run-quick-requires : tie.Need-run-quick-requires
+run-quick-requires c κs = search needs
+
+-- ---- in one go
+
+-- nothing is refused, and the last field ends where it has to
+quick : (c : tie.Then1) →
+    let a = c .before .before .before .before .before .before .before .before .before .args in
+    (runRefusal (a .order) (a .src .now) (a .cursor) (a .plan .now) (length (a .results .now)) ≡ done) × (c .before .before .before .before .run-quick .result .end ≡ place (a .cursor) + bitsOf (fieldsOf (a .plan .now)))
+quick c = c .before .before .before .before .run-quick .ensures .0 (c .if1 .taken)
+
+cursor-at-requires : tie.Need-cursor-at-requires
+cursor-at-requires c κs =
+    let r = granted _ _ _ _ _ (quick c .0) in
+    (omega (arith, quick c .1, r .inside), r .belongs .short)
+
+same-length : tie.Need-same-length
+same-length c = search needs
+
+returns : tie.Need-returns
+returns c =
+    let k = c .before in
+    let a = k .before .before .before .before .before .before .before .before .before .args in
+    let end = c .cursor-at .ensures ∙ ap (λ (p : ℕ). cursorAt (a .order) (a .src .now) (countsAt p)) (quick k .1) in
+    run-done _ _ _ _ _ (sym (quick k .0)) refl end (k .before .before .before .before .run-quick .ensures .1 .0 (k .if1 .taken))
+
+-- ---- step by step
+
+-- the results are as they were
+same : (c : tie.Else1) → c .before .before .before .before .run-quick .last .1 .1 .1 .1 .0 ≡ c .before .before .before .before .before .before .before .before .before .args .results .now
+same c = c .before .before .before .before .run-quick .ensures .1 .1 (c .if1 .left)
+
+found : (c : tie.After-run-refusal) →
+    let a = c .before .before .before .before .before .before .before .before .before .before .args in c .run-refusal .result ≡ runRefusal (a .order) (a .src .now) (a .cursor) (a .plan .now) (length (a .results .now))
+found c =
+    let a = c .before .before .before .before .before .before .before .before .before .before .args in
+    c .run-refusal .ensures ∙ ap (λ (l : List ℕ). runRefusal (a .order) (a .src .now) (a .cursor) (a .plan .now) (length l)) (same (c .before))
+
 run-refusal-requires : tie.Need-run-refusal-requires
 run-refusal-requires c κs = search needs
 
-returns : tie.Need-returns
-returns c = run-refused _ _ _ _ _ (c .before .run-refusal .ensures) (c .if1 .taken)
+same-length-2 : tie.Need-same-length-2
+same-length-2 c = search needs
+
+returns-2 : tie.Need-returns-2
+returns-2 c =
+    let (answer, out) = run-refused _ _ _ _ _ (found (c .before)) (c .if2 .taken) in
+    (answer, same (c .before .before) ∙ out)
 
 -- nothing is refused
-ready : (c : tie.Else1) →
-    let a = c .before .before .before .before .before .args in
+ready : (c : tie.Else2) →
+    let a = c .before .before .before .before .before .before .before .before .before .before .before .args in
     Granted (a .order) (a .src .now) (a .cursor) (a .plan .now) (length (a .results .now))
-ready c = granted _ _ _ _ _ (sym (c .before .run-refusal .ensures) ∙ c .if1 .left)
+ready c = granted _ _ _ _ _ (sym (found (c .before)) ∙ c .if2 .left)
 
 mul-run-plan : tie.Need-mul-run-plan
 mul-run-plan c = let h = ready (c .before) .belongs in omega (arith, h .within .fetched, h .short)
@@ -33,35 +82,42 @@ sub-run-plan c = ready (c .before .before) .belongs .within .behind
 
 run-plan-requires : tie.Need-run-plan-requires
 run-plan-requires c κs =
-    let r = ready (c .before .before .before) in
-    (r .belongs .short, r .passes, r .inside, r .fits)
+    let k = c .before .before .before in
+    let r = ready k in
+    (r .belongs .short, r .passes, r .inside, omega (arith, r .fits, ap length (same (k .before .before))))
 
-cursor-at-requires : tie.Need-cursor-at-requires
-cursor-at-requires c κs =
+cursor-at-requires-2 : tie.Need-cursor-at-requires-2
+cursor-at-requires-2 c κs =
     let r = ready (c .before .before .before .before .before .before) in
     (omega (arith, c .before .before .run-plan .ensures .0, r .inside), r .belongs .short)
 
-same-length : tie.Need-same-length
-same-length c = search needs
+same-length-3 : tie.Need-same-length-3
+same-length-3 c = search needs
 
-returns-2 : tie.Need-returns-2
-returns-2 c =
+returns-3 : tie.Need-returns-3
+returns-3 c =
     let k = c .before .before .before .before .before .before .before in
-    let a = k .before .before .before .before .before .args in
+    let a = k .before .before .before .before .before .before .before .before .before .before .before .args in
     let ran = c .before .before .before .run-plan .ensures in
-    let end = c .cursor-at .ensures ∙ ap (λ (p : ℕ). cursorAt (a .order) (a .src .now) (countsAt p)) (ran .0) in
-    run-done _ _ _ _ _ (k .before .run-refusal .ensures) (k .if1 .left) end (ran .1)
+    let end = c .cursor-at2 .ensures ∙ ap (λ (p : ℕ). cursorAt (a .order) (a .src .now) (countsAt p)) (ran .0) in
+    let out = ran .1 ∙ ap (λ (l : List ℕ). sets l 0 (valuesOf (a .order) (a .src .now) (place (a .cursor)) (fieldsOf (a .plan .now)))) (same (k .before .before)) in
+    run-done _ _ _ _ _ (found (k .before)) (k .if2 .left) end out
 
 pub run-spec : {M : Type 1} → statement M
 run-spec =
     tie.close
     (tie.spec
-    run-refusal-requires
+    run-quick-requires
+    cursor-at-requires
+    same-length
     returns
+    run-refusal-requires
+    same-length-2
+    returns-2
     mul-run-plan
     cast-run-plan
     sub-run-plan
     run-plan-requires
-    cursor-at-requires
-    same-length
-    returns-2)
+    cursor-at-requires-2
+    same-length-3
+    returns-3)

@@ -7,15 +7,16 @@ use native.Mathlib.Omega.{arith}
 use lib.ListN.{length, drop, getD}
 use Rattle.bits.specs.FieldLaws.{field-lt}
 use borrow.Author.Tests.{leb-true}
-use Rattle.layout.specs.Layout.{item, itemsOf, bitsOf}
-use Rattle.layout.specs.LayoutLaws.{is-layout-of, length-items, bits-most, items-at, items-end}
-use Rattle.plan.proofs.Reading.{Left, start, width, inside, room, next, finish}
+use Rattle.layout.specs.Layout.{item, itemsOf, goodItems, bitsOf}
+use Rattle.layout.specs.LayoutLaws.{good-of, is-layout-of, length-items, bits-most, items-at, items-end}
+use Rattle.plan.proofs.Reading.{Left, start, inside, room, next, finish}
 use Rattle.plan.proofs.inner.fields.Statement.{statement}
 use Rattle.plan.proofs.inner.fields.Tie as tie
 
 abbrev Inv-loop : tie.InvT-loop
 Inv-loop order src layout place results₀ inside at₀ i₀ j₀ results at i j =
     (i ≤ length layout) × (i % 2 ≡ 0) × (inside ≡ true → place + bitsOf (itemsOf layout) + 64 ≤ 8 * length src)
+    × (goodItems (itemsOf (drop i layout)) ≡ true)
     × Left order src place (itemsOf layout) results₀ (itemsOf (drop i layout)) at j results
 
 abbrev μ-loop : tie.MeasureT-loop
@@ -46,7 +47,8 @@ loop-holds c =
             bits-most (itemsOf (s .args .layout .now)) good,
             length-items (s .args .layout .now) even,
           ),
-      start good,
+      good,
+      start,
     )
 
 -- the bytes come in pairs
@@ -59,7 +61,14 @@ here : (c : tie.In-loop Inv-loop μ-loop) →
     let l = c .before .loop in
     Left (a .order) (a .src .now) (a .place) (itemsOf (a .layout .now)) (a .results .now)
     (item (getD (a .layout .now) (l .i) 0) (getD (a .layout .now) (l .i + 1) 0) ∷ itemsOf (drop (l .i + 2) (a .layout .now))) (l .at) (l .j) (l .results)
-here c = rw (items-at _ _ (pair c)) at (c .before .loop .inv .3)
+here c = rw (items-at _ _ (pair c)) at (c .before .loop .inv .4)
+
+-- it is a field that there is, and so are the others
+fine : (c : tie.In-loop Inv-loop μ-loop) →
+    let layout = c .before .before .before .before .before .args .layout .now in
+    let i = c .before .loop .i in
+    (getD layout i 0 ≤ 1) × (getD layout (i + 1) 0 ≤ 64) × (goodItems (itemsOf (drop (i + 2) layout)) ≡ true)
+fine c = good-of _ _ (rw (items-at _ _ (pair c)) at (c .before .loop .inv .3))
 
 shared-slice-read-kind : tie.Need-shared-slice-read-kind Inv-loop μ-loop
 shared-slice-read-kind c = omega arith
@@ -71,17 +80,17 @@ shared-slice-read-w : tie.Need-shared-slice-read-w Inv-loop μ-loop
 shared-slice-read-w c = pair (c .before .before)
 
 cast-w : tie.Need-cast-w Inv-loop μ-loop
-cast-w c = omega (arith, width (here (c .before .before)))
+cast-w c = omega (arith, fine (c .before .before) .1)
 
 field-in-requires : tie.Need-field-in-requires Inv-loop μ-loop
 field-in-requires c κs =
     let left = here (c .before .before) in
     let s = c .before .before .before .before .before .before .before in
-    (width left, omega (arith, inside left, s .pre .2), s .pre .0, λ t. omega (arith, inside left, c .before .before .before .loop .inv .2 t))
+    (fine (c .before .before) .1, omega (arith, inside left, s .pre .2), s .pre .0, λ t. omega (arith, inside left, c .before .before .before .loop .inv .2 t))
 
 pattern-requires : tie.Need-pattern-requires Inv-loop μ-loop
 pattern-requires c κs =
-    (width (here (c .before .before .before)), rw (c .field-in .ensures) (field-lt _ _ _ _))
+    (fine (c .before .before .before) .1, rw (c .field-in .ensures) (field-lt _ _ _ _))
 
 -- there are at most 64 fields
 few : (c : tie.After-pattern Inv-loop μ-loop) → c .before .before .before .before .before .loop .j < 64
@@ -99,7 +108,7 @@ slice-write-results c =
     omega (arith, room left, left .size, c .before .before .before .before .before .before .before .before .before .pre .3)
 
 cast-at : tie.Need-cast-at Inv-loop μ-loop
-cast-at c = omega (arith, width (here (c .before .before .before .before)))
+cast-at c = omega (arith, fine (c .before .before .before .before) .1)
 
 add-at : tie.Need-add-at Inv-loop μ-loop
 add-at c =
@@ -118,7 +127,7 @@ loop-less c = omega (arith, pair (c .before .before .before .before))
 loop-again : tie.Need-loop-again Inv-loop μ-loop
 loop-again c =
     let k = c .before .before .before .before in
-    (omega (arith, pair k), omega arith, k .before .loop .inv .2, rw (c .pattern .ensures, c .before .field-in .ensures) (next (here k)))
+    (omega (arith, pair k), omega arith, k .before .loop .inv .2, fine k .2, rw (c .pattern .ensures, c .before .field-in .ensures) (next (here k)))
 
 -- every field is read
 all : (c : tie.After-loop Inv-loop μ-loop) →
@@ -127,10 +136,10 @@ all : (c : tie.After-loop Inv-loop μ-loop) →
     Left (a .order) (a .src .now) (a .place) (itemsOf (a .layout .now)) (a .results .now) [] (l .at) (l .j) (l .results)
 all c =
     let e : c .before .loop .i ≡ length (c .before .before .before .before .before .args .layout .now) = omega arith in
-    rw (items-end _ _ e) at (c .before .loop .inv .3)
+    rw (items-end _ _ e) at (c .before .loop .inv .4)
 
 same-length : tie.Need-same-length Inv-loop μ-loop
-same-length c = c .before .loop .inv .3 .size
+same-length c = c .before .loop .inv .4 .size
 
 returns : tie.Need-returns Inv-loop μ-loop
 returns c = finish (all c)
