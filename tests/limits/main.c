@@ -1,4 +1,4 @@
-/* Refusal 1 in the calls that the crate limits hands on: a slice of 16,777,217 bytes is refused with 1 everywhere, one of 16,777,216 nowhere; and the plan
+/* Refusal 1 in the calls that the crate past_the_limit hands on: a slice of 16,777,217 bytes is refused with 1 everywhere, one of 16,777,216 nowhere; and the plan
  * check comes back from a plan of 16,777,216 bytes, whose steps it does not follow. */
 #include <stdio.h>
 typedef unsigned char u8;

@@ -5,23 +5,23 @@ use mathlib.Core.List.{List}
 use lib.ListN.{length}
 use native.Mathlib.Omega.{arith}
 use Rattle.bits.specs.declared.Order.{Order}
-use Rattle.bits.specs.Refusals.{limit}
+use Rattle.bits.specs.Refusals.{longest}
 use Rattle.bits.specs.Field.{field}
 use Rattle.bits.specs.Word.{held}
-use Rattle.bits.specs.JoinLaws.{join-zeros}
+use Rattle.bits.proofs.JoinLaws.{join-zeros}
 use Rattle.counts.specs.Counts.{bitsLeft}
-use Rattle.counts.specs.CountLaws.{read-left}
+use Rattle.counts.proofs.CountLaws.{read-left}
 use Rattle.lookahead.specs.declared.State.{State}
 use Rattle.lookahead.specs.declared.Taken.{Taken}
 use Rattle.lookahead.specs.State.{registerOf, countsOf, Belongs, takenOf}
-use Rattle.lookahead.specs.StateLaws.{read-belongs}
+use Rattle.lookahead.proofs.StateLaws.{read-belongs}
 
 -- Ready for fields of 38 bits to come: the state belongs to the slice, and there are bits for them.
 abbrev pub Ready : Order → List ℕ → State → ℕ → Type 0
 Ready o s c left = Belongs o s c × (38 * left ≤ bitsLeft (length s) (countsOf c))
 
 -- the state of zeros belongs to every slice
-pub fresh : (o : Order) (s : List ℕ) → length s ≤ limit → Belongs o s (record { offset = 0; lookahead = 0; register = 0 })
+pub fresh : (o : Order) (s : List ℕ) → length s ≤ longest → Belongs o s (record { offset = 0; lookahead = 0; register = 0 })
 unfolding registerOf held field
 fresh o s short =
     record {

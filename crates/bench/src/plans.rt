@@ -6,7 +6,7 @@ ghost use mathlib.Core.Path.{_≡_};
 ghost use mathlib.Core.Bool.{true};
 ghost use Prim.Native.Nat.{_≤_};
 ghost use lib.ListN.{length};
-ghost use Rattle.bits.specs.Refusals.{limit};
+ghost use Rattle.bits.specs.Refusals.{longest};
 ghost use Rattle.layout.specs.Layout.{itemsOf, isLayout, bitsOf};
 
 // The sum of the results.
@@ -22,7 +22,7 @@ fn summed(results: &[u64]) -> u64 {
 
 // A layout of `bits` bits by the inner runner, as often as the slice has it.
 fn over_big(src: &[u8], layout: &[u8], bits: usize, results: &mut [u64]) -> u64
-    requires { ⌜ (length (now src) ≤ limit) × (isLayout (now layout) ≡ true) × (bitsOf (itemsOf (now layout)) ≡ bits) × (length (itemsOf (now layout)) ≤ length (now results)) ⌝ }
+    requires { ⌜ (length (now src) ≤ longest) × (isLayout (now layout) ≡ true) × (bitsOf (itemsOf (now layout)) ≡ bits) × (length (itemsOf (now layout)) ≤ length (now results)) ⌝ }
 {
     if bits == 0 {
         return 0;
@@ -37,7 +37,7 @@ fn over_big(src: &[u8], layout: &[u8], bits: usize, results: &mut [u64]) -> u64
 }
 
 fn over_little(src: &[u8], layout: &[u8], bits: usize, results: &mut [u64]) -> u64
-    requires { ⌜ (length (now src) ≤ limit) × (isLayout (now layout) ≡ true) × (bitsOf (itemsOf (now layout)) ≡ bits) × (length (itemsOf (now layout)) ≤ length (now results)) ⌝ }
+    requires { ⌜ (length (now src) ≤ longest) × (isLayout (now layout) ≡ true) × (bitsOf (itemsOf (now layout)) ≡ bits) × (length (itemsOf (now layout)) ≤ length (now results)) ⌝ }
 {
     if bits == 0 {
         return 0;
@@ -52,7 +52,7 @@ fn over_little(src: &[u8], layout: &[u8], bits: usize, results: &mut [u64]) -> u
 }
 
 fn over(order: Order, src: &[u8], layout: &[u8], bits: usize, results: &mut [u64]) -> u64
-    requires { ⌜ (length (now src) ≤ limit) × (isLayout (now layout) ≡ true) × (bitsOf (itemsOf (now layout)) ≡ bits) × (length (itemsOf (now layout)) ≤ length (now results)) ⌝ }
+    requires { ⌜ (length (now src) ≤ longest) × (isLayout (now layout) ≡ true) × (bitsOf (itemsOf (now layout)) ≡ bits) × (length (itemsOf (now layout)) ≤ length (now results)) ⌝ }
 {
     match order {
         Order::Big => over_big(src, layout, bits, results),
@@ -62,11 +62,11 @@ fn over(order: Order, src: &[u8], layout: &[u8], bits: usize, results: &mut [u64
 
 // A plan, checked and decoded once.
 pub fn fields(order: Order, src: &[u8], plan: &[u8], results: &mut [u64]) -> u64 {
-    if refusals::LIMIT < src.len() {
+    if refusals::LONGEST < src.len() {
         return 0;
     }
-    if layout::inner::is_plan(plan) {
-        let size = layout::inner::measure(plan);
+    if layout::inner::check::is_plan(plan) {
+        let size = layout::inner::size::measure(plan);
         if results.len() < size.fields {
             return 0;
         }
@@ -79,11 +79,7 @@ pub fn fields(order: Order, src: &[u8], plan: &[u8], results: &mut [u64]) -> u64
 
 // A plan by the public call, n times or as often as the slice has its layout.
 pub fn runs_big(src: &[u8], plan: &[u8], n: usize, results: &mut [u64]) -> u64 {
-    let mut cursor = Cursor {
-        offset: 0,
-        lookahead: 0,
-        register: 0,
-    };
+    let mut cursor = Cursor::from_parts(0, 0, 0);
     let mut sum: u64 = 0;
     let mut left = n;
     while 0 < left {
@@ -99,11 +95,7 @@ pub fn runs_big(src: &[u8], plan: &[u8], n: usize, results: &mut [u64]) -> u64 {
 }
 
 pub fn runs_little(src: &[u8], plan: &[u8], n: usize, results: &mut [u64]) -> u64 {
-    let mut cursor = Cursor {
-        offset: 0,
-        lookahead: 0,
-        register: 0,
-    };
+    let mut cursor = Cursor::from_parts(0, 0, 0);
     let mut sum: u64 = 0;
     let mut left = n;
     while 0 < left {

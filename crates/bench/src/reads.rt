@@ -7,11 +7,7 @@ use reader::Cursor;
 
 // n fields of 38 bits by the public call, or as many as there are.
 pub fn fixed_big(src: &[u8], n: usize) -> u64 {
-    let mut cursor = Cursor {
-        offset: 0,
-        lookahead: 0,
-        register: 0,
-    };
+    let mut cursor = Cursor::from_parts(0, 0, 0);
     let mut sum: u64 = 0;
     let mut left = n;
     while 0 < left {
@@ -27,11 +23,7 @@ pub fn fixed_big(src: &[u8], n: usize) -> u64 {
 }
 
 pub fn fixed_little(src: &[u8], n: usize) -> u64 {
-    let mut cursor = Cursor {
-        offset: 0,
-        lookahead: 0,
-        register: 0,
-    };
+    let mut cursor = Cursor::from_parts(0, 0, 0);
     let mut sum: u64 = 0;
     let mut left = n;
     while 0 < left {
@@ -48,11 +40,7 @@ pub fn fixed_little(src: &[u8], n: usize) -> u64 {
 
 // The same of a width that is handed in.
 pub fn given_big(src: &[u8], w: u32, n: usize) -> u64 {
-    let mut cursor = Cursor {
-        offset: 0,
-        lookahead: 0,
-        register: 0,
-    };
+    let mut cursor = Cursor::from_parts(0, 0, 0);
     let mut sum: u64 = 0;
     let mut left = n;
     while 0 < left {
@@ -68,11 +56,7 @@ pub fn given_big(src: &[u8], w: u32, n: usize) -> u64 {
 }
 
 pub fn given_little(src: &[u8], w: u32, n: usize) -> u64 {
-    let mut cursor = Cursor {
-        offset: 0,
-        lookahead: 0,
-        register: 0,
-    };
+    let mut cursor = Cursor::from_parts(0, 0, 0);
     let mut sum: u64 = 0;
     let mut left = n;
     while 0 < left {
@@ -89,7 +73,7 @@ pub fn given_little(src: &[u8], w: u32, n: usize) -> u64 {
 
 // Every field of 38 bits by the inner read, which tests nothing.
 pub fn unchecked_big(src: &[u8]) -> u64 {
-    if refusals::LIMIT < src.len() {
+    if refusals::LONGEST < src.len() {
         return 0;
     }
     let mut state = State {
@@ -109,7 +93,7 @@ pub fn unchecked_big(src: &[u8]) -> u64 {
 }
 
 pub fn unchecked_little(src: &[u8]) -> u64 {
-    if refusals::LIMIT < src.len() {
+    if refusals::LONGEST < src.len() {
         return 0;
     }
     let mut state = State {
@@ -130,7 +114,7 @@ pub fn unchecked_little(src: &[u8]) -> u64 {
 
 // Every field of 38 bits by its place.
 pub fn places_big(src: &[u8]) -> u64 {
-    if refusals::LIMIT < src.len() {
+    if refusals::LONGEST < src.len() {
         return 0;
     }
     let mut place = 0;
@@ -145,7 +129,7 @@ pub fn places_big(src: &[u8]) -> u64 {
 }
 
 pub fn places_little(src: &[u8]) -> u64 {
-    if refusals::LIMIT < src.len() {
+    if refusals::LONGEST < src.len() {
         return 0;
     }
     let mut place = 0;

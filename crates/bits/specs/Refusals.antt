@@ -1,8 +1,10 @@
 -- The refusal numbers, in the order in which they win: where several apply, the lowest is given.
 use Prim.Native.Nat.{ℕ}
-use mathlib.Core.Bool.{cond}
+use mathlib.Core.Bool.{Bool, cond}
+use mathlib.Core.List.{List, [], _∷_}
 use lib.Dec.{eqb}
 
+infix 68 _⟶_
 -- done
 abbrev pub done : ℕ
 done = 0
@@ -48,9 +50,23 @@ abbrev pub pastLookahead : ℕ
 pastLookahead = 10
 
 -- the longest byte slice that a call takes
-abbrev pub limit : ℕ
-limit = 16777216
+abbrev pub longest : ℕ
+longest = 16777216
 
 -- the first refusal, or the second where the first is none
 unfoldable pub orElse : ℕ → ℕ → ℕ
 orElse a b = cond (eqb a done) b a
+
+-- a row of a table of refusals: the number where the test holds, else none
+abbrev pub _⟶_ : Bool → ℕ → ℕ
+t ⟶ n = cond t n done
+
+-- a table of refusals: the first of its rows that refuses. A row is a test with its number, or another refusal
+unfoldable pub firstRefusal : List ℕ → ℕ
+firstRefusal [] = done
+firstRefusal (e ∷ []) = e
+firstRefusal (e ∷ f ∷ es) = orElse e (firstRefusal (f ∷ es))
+
+-- what a call gives: x where nothing refuses it, else y
+abbrev pub ifDone : {A : Type 0} → ℕ → A → A → A
+ifDone e x y = cond (eqb e done) x y

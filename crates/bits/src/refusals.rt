@@ -22,4 +22,4 @@ pub const TOO_FEW: u32 = 9;
 pub const PAST_LOOKAHEAD: u32 = 10;
 
 // The longest byte slice that a call takes.
-pub const LIMIT: usize = 16_777_216;
+pub const LONGEST: usize = 16_777_216;

@@ -2,7 +2,7 @@
 use crate::Counts;
 ghost use mathlib.Core.Path.{_≡_};
 ghost use Prim.Native.Nat.{_*_, _≤_};
-ghost use Rattle.bits.specs.Refusals.{limit};
+ghost use Rattle.bits.specs.Refusals.{longest};
 ghost use Rattle.counts.specs.Counts.{Within, fetch, bitsLeft, bytesLeft, afterRefill, afterRead, afterEights, passedOver, afterBytes, countsAt};
 
 // How many bytes a refill fetches.
@@ -16,7 +16,7 @@ pub fn fetched(unfetched: usize, lookahead: u32) -> usize
 
 // How many bits are left.
 pub fn bits_left(len: usize, k: Counts) -> usize
-    requires { ⌜ Within len k × (len ≤ limit) ⌝ }
+    requires { ⌜ Within len k × (len ≤ longest) ⌝ }
     ensures { λ r. ⌜ r ≡ bitsLeft len k ⌝ }
 {
     8 * (len - k.offset) + k.lookahead as usize
@@ -24,7 +24,7 @@ pub fn bits_left(len: usize, k: Counts) -> usize
 
 // How many whole bytes are left.
 pub fn bytes_left(len: usize, k: Counts) -> usize
-    requires { ⌜ Within len k × (len ≤ limit) ⌝ }
+    requires { ⌜ Within len k × (len ≤ longest) ⌝ }
     ensures { λ r. ⌜ r ≡ bytesLeft len k ⌝ }
 {
     len - k.offset + (k.lookahead / 8) as usize
@@ -87,7 +87,7 @@ fn passed_over(partial: u32, m: usize) -> usize
 
 // The counts after a read of n bytes.
 pub fn after_bytes(len: usize, k: Counts, n: usize) -> Counts
-    requires { ⌜ Within len k × (n ≤ bytesLeft len k) × (len ≤ limit) ⌝ }
+    requires { ⌜ Within len k × (n ≤ bytesLeft len k) × (len ≤ longest) ⌝ }
     ensures { λ r. ⌜ r ≡ afterBytes len n k ⌝ }
 {
     let held = (k.lookahead / 8) as usize;

@@ -1,5 +1,2 @@
 pub mod Digits
 pub mod Reading
-pub mod RunLaws
-pub mod PartLaws
-pub mod PlaceLaws

@@ -16,6 +16,9 @@ pub enum Double {
 }
 
 // The single of 32 bits: their number, or the bits themselves where they are a NaN's.
+//     let nan = floats::single_of_bits(0x7fa0_0001);
+//     let bits = floats::bits_of_single(nan);
+//     expect(b"bits_of_single", bits == 0x7fa0_0001);
 pub fn single_of_bits(bits: u32) -> Single
     ensures { λ r. ⌜ r ≡ singleOf bits ⌝ }
 {
@@ -27,6 +30,9 @@ pub fn single_of_bits(bits: u32) -> Single
 }
 
 // The 32 bits of a single. A NaN that was computed has no payload, and gives 0x7FC00000.
+//     let nan = floats::single_of_bits(0x7fa0_0001);
+//     let bits = floats::bits_of_single(nan);
+//     expect(b"bits_of_single", bits == 0x7fa0_0001);
 pub fn bits_of_single(value: Single) -> u32
     ensures { λ r. ⌜ r ≡ singleBits value ⌝ }
 {
@@ -37,6 +43,9 @@ pub fn bits_of_single(value: Single) -> u32
 }
 
 // The double of 64 bits: their number, or the bits themselves where they are a NaN's.
+//     let nan = floats::double_of_bits(0x7ff4_0000_0000_0001);
+//     let bits = floats::bits_of_double(nan);
+//     expect(b"bits_of_double", bits == 0x7ff4_0000_0000_0001);
 pub fn double_of_bits(bits: u64) -> Double
     ensures { λ r. ⌜ r ≡ doubleOf bits ⌝ }
 {
@@ -48,6 +57,9 @@ pub fn double_of_bits(bits: u64) -> Double
 }
 
 // The 64 bits of a double. A NaN that was computed has no payload, and gives 0x7FF8000000000000.
+//     let nan = floats::double_of_bits(0x7ff4_0000_0000_0001);
+//     let bits = floats::bits_of_double(nan);
+//     expect(b"bits_of_double", bits == 0x7ff4_0000_0000_0001);
 pub fn bits_of_double(value: Double) -> u64
     ensures { λ r. ⌜ r ≡ doubleBits value ⌝ }
 {

@@ -17,11 +17,13 @@ fn order_of(order: u32) -> Order
 }
 
 // 0 where the field of `width` bits at bit `place` can be had, else 1 (slice too long), 3 (width above 64) or 9 (it ends past the slice).
+//     let number = host::strip_refusal(1, 4, 21, b"\x00\x00\x5e");
+//     expect(b"strip_refusal", number == 9);
 #[no_mangle]
 pub extern "C" fn strip_refusal(order: u32, place: u64, width: u32, src: &[u8]) -> u32
     ensures { λ r. ⌜ r ≡ hostRefusal place width (length (now (src .entry))) ⌝ }
 {
-    if refusals::LIMIT < src.len() {
+    if refusals::LONGEST < src.len() {
         return refusals::TOO_LONG;
     }
     if 64 < width {
@@ -39,6 +41,8 @@ pub extern "C" fn strip_refusal(order: u32, place: u64, width: u32, src: &[u8]) 
 }
 
 // The field's value, or 0 where `strip_refusal` is not 0.
+//     let value = host::strip_value(1, 0, 20, b"\x00\x00\x5e");
+//     expect(b"strip_value", value == 5);
 #[no_mangle]
 pub extern "C" fn strip_value(order: u32, place: u64, width: u32, src: &[u8]) -> u64
     ensures { λ r. ⌜ r ≡ hostValue order place width (now (src .entry)) ⌝ }

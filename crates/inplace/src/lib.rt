@@ -4,10 +4,11 @@ use bits::Order;
 use reader::Cursor;
 use reader::Peeked;
 ghost use mathlib.Core.Path.{_≡_};
-ghost use Rattle.reader.specs.Answers.{peekOf, consumeOf, refillOf};
-ghost use Rattle.reader.specs.AnswerLaws.{moved};
+ghost use Rattle.reader.specs.Answers.{peekOf, consumeOf, refillOf, moved};
 
 // The first bits of the lookahead, which stay. Refusals 1, 2 and 10.
+//     let seen = lent::peeked(full, Order::Big, b"\xa5\x01", 4);
+//     expect(b"inplace::peek", seen.value == 10);
 pub fn peek(cursor: &Cursor, order: Order, src: &[u8], count: u32) -> Peeked
     ensures { λ r. ⌜ r ≡ peekOf order (now (src .entry)) (now (cursor .entry)) count ⌝ }
 {
@@ -16,6 +17,8 @@ pub fn peek(cursor: &Cursor, order: Order, src: &[u8], count: u32) -> Peeked
 }
 
 // Takes the first bits off the lookahead. The answer is the refusal number: 1, 2 or 10, else 0.
+//     let moved = lent::consumed(full, Order::Big, b"\xa5\x01", 17);
+//     expect(b"inplace::consume", moved.refusal == 10);
 pub fn consume(cursor: &mut Cursor, order: Order, src: &[u8], count: u32) -> u32
     ensures { λ r. ⌜ moved r (now (cursor .exit)) ≡ consumeOf order (now (src .entry)) (now (cursor .entry)) count ⌝ }
 {
@@ -26,6 +29,8 @@ pub fn consume(cursor: &mut Cursor, order: Order, src: &[u8], count: u32) -> u32
 }
 
 // Fetches as many whole bytes as the slice and 63 bits allow. The answer is the refusal number: 1 or 2, else 0.
+//     let moved = lent::refilled(start, Order::Big, b"\xa5\x01");
+//     expect(b"inplace::refill_lookahead", moved.refusal == 0);
 pub fn refill_lookahead(cursor: &mut Cursor, order: Order, src: &[u8]) -> u32
     ensures { λ r. ⌜ moved r (now (cursor .exit)) ≡ refillOf order (now (src .entry)) (now (cursor .entry)) ⌝ }
 {

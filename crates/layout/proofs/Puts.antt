@@ -3,18 +3,19 @@ use Prim.Native.Nat.{ℕ, suc, _+_, _-_, _*_, _%_, _<_, _≤_}
 use mathlib.Core.Path.{_≡_, refl, sym, ap, _∙_}
 use mathlib.Core.Bool.{true}
 use mathlib.Core.List.{List, [], _∷_, _++_}
-use native.Mathlib.Nat.{add-zero, add-suc, suc-add, add-assoc}
+use native.Mathlib.Nat.{add-zero, add-assoc}
 use native.Mathlib.Omega.{arith}
-use lib.ListN.{length, drop, getD, set, length-append}
+use lib.ListN.{length, drop, getD, length-append}
 use lib.Seq.{sets}
 use borrow.Author.Tests.{le-leb, lt-leb}
-use Rattle.layout.specs.declared.inner.Put.{Put}
+use Rattle.bits.proofs.StoreLaws.{sets-append}
+use Rattle.layout.specs.declared.inner.compiler.Put.{Put}
 use Rattle.layout.specs.Layout.{item, itemsOf, goodItems, isLayout}
 use Rattle.layout.specs.Plan.{wide, takes, refilled}
 use Rattle.layout.specs.Known.{known}
-use Rattle.layout.specs.LayoutLaws.{good-of, is-layout-of, items-at, items-end}
-use Rattle.layout.specs.CompileLaws.{length-compiled}
-use Rattle.layout.specs.SeamLaws.{known-le, known-append, takes-append, refilled-append}
+use Rattle.layout.proofs.LayoutLaws.{good-of, is-layout-of, items-at, items-end}
+use Rattle.layout.proofs.CompileLaws.{length-compiled}
+use Rattle.layout.proofs.SeamLaws.{known-le, known-append, takes-append, refilled-append}
 
 -- where writing goes on after the takes ts, from p on
 abbrev pub nextOf : Put → List ℕ → Put
@@ -27,10 +28,6 @@ pub record Wrote (p : Put) (ts out : List ℕ) (q : Put) (o : List ℕ) : Type 0
 
 put-is : (p q : Put) → p .at ≡ q .at → p .known ≡ q .known → p ≡ q
 put-is p q e f = λ i. record { at = e i; known = f i }
-
-sets-append : (xs ys l : List ℕ) (i : ℕ) → sets l i (xs ++ ys) ≡ sets (sets l i xs) (i + length xs) ys
-sets-append [] ys l i = rw add-zero
-sets-append (x ∷ xs) ys l i = sets-append xs ys (set l i x) (suc i) ∙ rw (suc-add i (length xs), add-suc i (length xs))
 
 pub wrote-none : (p : Put) (out : List ℕ) → Wrote p [] out p out
 unfolding refilled known

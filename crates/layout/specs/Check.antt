@@ -13,8 +13,7 @@ fits low g b = leb low (count b) && leb (count b) g
 abbrev pub endsWide : ℕ → Bool
 endsWide b = ends b && (leb 1 (count b) && leb (count b) 8)
 
--- whether steps go on as a plan does, with a known lookahead g and n more fields allowed. low is 0, or after a refill what the next
--- take has to reach, since else the refill was not needed
+-- whether steps go on as a plan does, g bits being known and n more fields allowed; low is 0, or after a refill what the next take has to reach
 unfoldable mutual
   pub atField : ℕ → ℕ → ℕ → List ℕ → Bool
   atField low g n [] = eqb low 0
@@ -22,6 +21,7 @@ unfoldable mutual
       cond (eqb b refill) (eqb low 0 && atField (suc g) 56 n s)
       (fits low g b && cond (eqb b wide) (inWide 0 (g - 56) n s) (ends b && (ltb 0 n && atField 0 (g - count b) (n - 1) s)))
 
+  -- and inside a wide field
   pub inWide : ℕ → ℕ → ℕ → List ℕ → Bool
   inWide low g n [] = false
   inWide low g n (b ∷ s) =

@@ -3,7 +3,7 @@ use Prim.Native.Nat.{ℕ, _-_}
 use mathlib.Core.Bool.{cond}
 use mathlib.Core.List.{List, [], _∷_}
 use lib.Dec.{ltb}
-use Rattle.layout.specs.Plan.{count, ends}
+use Rattle.layout.specs.Plan.{count}
 
 -- the known lookahead after a take, from g before it
 unfoldable pub after : ℕ → ℕ → ℕ
@@ -13,7 +13,3 @@ after g t = cond (ltb g (count t)) (56 - count t) (g - count t)
 unfoldable pub known : ℕ → List ℕ → ℕ
 known g [] = g
 known g (t ∷ ts) = known (after g t) ts
-
--- 1 for a step that is the last of a field
-abbrev pub one : ℕ → ℕ
-one b = cond (ends b) 1 0

@@ -10,6 +10,7 @@ pub record Item : Type 0 where
   pub kind : ℕ
   pub width : ℕ
 
+-- the field of a kind and a width
 abbrev pub item : ℕ → ℕ → Item
 item k w = record { kind = k; width = w }
 
@@ -19,15 +20,11 @@ itemsOf [] = []
 itemsOf (k ∷ []) = []
 itemsOf (k ∷ w ∷ s) = item k w ∷ itemsOf s
 
--- the bytes that name fields
-unfoldable pub bytesOf : List Item → List ℕ
-bytesOf [] = []
-bytesOf (f ∷ fs) = f .kind ∷ f .width ∷ bytesOf fs
-
 -- a field whose kind is 0 or 1 and whose width is at most 64
 abbrev pub goodItem : Item → Bool
 goodItem f = leb (f .kind) 1 && leb (f .width) 64
 
+-- fields that all are good
 unfoldable pub goodItems : List Item → Bool
 goodItems [] = true
 goodItems (f ∷ fs) = goodItem f && goodItems fs

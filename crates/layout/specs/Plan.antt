@@ -9,9 +9,11 @@ use Rattle.layout.specs.Layout.{Item, item}
 abbrev pub step : ℕ → ℕ → ℕ
 step code n = 64 * code + n
 
+-- the code of a step
 abbrev pub code : ℕ → ℕ
 code b = b / 64
 
+-- the count of a step
 abbrev pub count : ℕ → ℕ
 count b = b % 64
 
@@ -24,15 +26,15 @@ abbrev pub wide : ℕ
 wide = step 3 56
 
 -- codes 1 and 2: the last step of a field of kind 0 or 1
-abbrev pub take : ℕ → ℕ → ℕ
-take kind n = step (suc kind) n
+abbrev pub lastTake : ℕ → ℕ → ℕ
+lastTake kind n = step (suc kind) n
 
 -- the takes of fields in order: width ≤ 56 is one, a wider field is the first 56 bits and then the others
 unfoldable pub takes : List Item → List ℕ
 takes [] = []
 takes (f ∷ fs) =
-    cond (leb (f .width) 56) (take (f .kind) (f .width) ∷ takes fs)
-    (wide ∷ take (f .kind) (f .width - 56) ∷ takes fs)
+    cond (leb (f .width) 56) (lastTake (f .kind) (f .width) ∷ takes fs)
+    (wide ∷ lastTake (f .kind) (f .width - 56) ∷ takes fs)
 
 -- takes with their refills, from a known lookahead g on: a take of more than g is preceded by one, and lowers what is known
 unfoldable pub refilled : ℕ → List ℕ → List ℕ

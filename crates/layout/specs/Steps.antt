@@ -4,7 +4,6 @@ use mathlib.Core.Bool.{Bool, true, cond, _&&_}
 use mathlib.Core.List.{List, [], _∷_}
 use lib.Dec.{eqb, leb}
 use Rattle.layout.specs.Plan.{count, refill, ends}
-use Rattle.layout.specs.Known.{one}
 
 -- no take is of more than is known, g at first and 56 after a refill
 unfoldable pub enough : ℕ → List ℕ → Bool
@@ -20,6 +19,10 @@ whole a (b ∷ s) = cond (ends b) (leb (a + count b) 64 && whole 0 s) (leb (a + 
 unfoldable pub total : List ℕ → ℕ
 total [] = 0
 total (b ∷ s) = count b + total s
+
+-- 1 for a step that is the last of a field
+abbrev pub one : ℕ → ℕ
+one b = cond (ends b) 1 0
 
 -- how many fields they end
 unfoldable pub ended : List ℕ → ℕ

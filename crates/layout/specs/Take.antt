@@ -1,14 +1,29 @@
--- A step of the plan check that takes its refill along: the next take, and what the check is behind it.
+-- The plan check one step at a time: what a step gives, and a step that takes its refill along.
 use Prim.Native.Nat.{ℕ, _+_, _-_, _<_, _≤_}
 use mathlib.Core.Path.{_≡_}
 use mathlib.Core.Bool.{Bool, cond, _&&_}
 use mathlib.Core.List.{List}
 use lib.ListN.{length, getD, drop}
-use lib.Dec.{eqb, leb}
-use Rattle.layout.specs.declared.inner.Take.{Take}
-use Rattle.layout.specs.Plan.{count, wide, ends, decode}
-use Rattle.layout.specs.Check.{endsWide, atField, inWide}
-use Rattle.layout.specs.CheckLaws.{closed, atOn}
+use lib.Dec.{eqb, ltb, leb}
+use Rattle.layout.specs.declared.inner.check.Take.{Take}
+use Rattle.layout.specs.Plan.{count, refill, wide, ends, decode}
+use Rattle.layout.specs.Check.{fits, endsWide, atField, inWide}
+
+-- a step b: `again` if it is a refill, `on` if it is a take that fits
+abbrev pub checked : ℕ → ℕ → ℕ → Bool → Bool → Bool
+checked low g b again on = cond (eqb b refill) (eqb low 0 && again) (fits low g b && on)
+
+-- the last step of a field, if it is one and n fields more are allowed
+abbrev pub closed : Bool → ℕ → Bool → Bool
+closed last n on = last && (ltb 0 n && on)
+
+-- the check at a field after a take b that fits
+abbrev pub atOn : ℕ → ℕ → ℕ → List ℕ → Bool
+atOn g n b s = cond (eqb b wide) (inWide 0 (g - 56) n s) (closed (ends b) n (atField 0 (g - count b) (n - 1) s))
+
+-- and inside a wide field
+abbrev pub wideOn : ℕ → ℕ → ℕ → List ℕ → Bool
+wideOn g n b s = closed (endsWide b) n (atField 0 (g - count b) (n - 1) s)
 
 -- the check at a field after a take b that leaves g bits
 abbrev pub atLeft : ℕ → ℕ → ℕ → List ℕ → Bool

@@ -14,11 +14,13 @@ pub struct Compiled {
 
 // Compiles a layout into a lent output, and answers the plan's length. What lies past the plan is untouched, and all of it on a
 // refusal: 1 (a slice past the limit), 5 (no layout), 8 (no room for the plan).
+//     let compiled = layout::compile(b"\x00\x03\x01\x05", &mut out);
+//     expect(b"compile", compiled.length == 3);
 pub fn compile(layout: &[u8], out: &mut [u8]) -> Compiled
     ensures answer { λ r. ⌜ r ≡ compileOf (now (layout .entry)) (length (now (out .entry))) ⌝ }
     ensures memory { λ _. ⌜ now (out .exit) ≡ compileOut (now (layout .entry)) (now (out .entry)) ⌝ }
 {
-    let refusal = inner::compile_refusal(layout, out.len());
+    let refusal = inner::compiler::compile_refusal(layout, out.len());
     if refusal != refusals::DONE {
         return Compiled {
             refusal: refusal,
@@ -27,18 +29,20 @@ pub fn compile(layout: &[u8], out: &mut [u8]) -> Compiled
     }
     Compiled {
         refusal: refusals::DONE,
-        length: inner::put_plan(layout, out),
+        length: inner::compiler::put_plan(layout, out),
     }
 }
 
 // 0 if some layout compiles to the plan, else 1 (past the limit) or 6.
+//     let number = layout::check(b"\x00\x43\x85");
+//     expect(b"check", number == 0);
 pub fn check(plan: &[u8]) -> u32
     ensures { λ r. ⌜ r ≡ checkOf (now (plan .entry)) ⌝ }
 {
-    if refusals::LIMIT < plan.len() {
+    if refusals::LONGEST < plan.len() {
         return refusals::TOO_LONG;
     }
-    if inner::is_plan(plan) {
+    if inner::check::is_plan(plan) {
         refusals::DONE
     } else {
         refusals::BAD_PLAN

@@ -1,8 +1,5 @@
--- The date rule: how many units of 10^-5 day the digits of a date name, and what is used of it.
-use Prim.Native.Nat.{ℕ, _+_, _-_, _*_, _/_, _^_, _≤_}
-use mathlib.Core.Path.{_≡_, ap, _∙_}
-use native.Mathlib.Nat.{div-one}
-use native.Mathlib.Omega.{arith}
+-- The date rule.
+use Prim.Native.Nat.{ℕ, _+_, _-_, _*_, _/_, _^_}
 
 -- the units in a day
 abbrev pub day : ℕ
@@ -11,15 +8,3 @@ day = 100000
 -- the units of w days and of the number v that d decimals spell, five or more; digits after the fifth are cut off
 unfoldable pub unitsOf : ℕ → ℕ → ℕ → ℕ
 unitsOf w v d = day * w + v / 10 ^ (d - 5)
-
--- five decimals are units
-pub units-five : (w v d : ℕ) → d ≤ 5 → unitsOf w v d ≡ day * w + v
-unfolding unitsOf
-units-five w v d h =
-    let z : d - 5 ≡ 0 = omega arith in
-    ap (λ (n : ℕ). day * w + v / 10 ^ n) z ∙ ap (λ (n : ℕ). day * w + n) (div-one v)
-
--- decimals only add to the days
-pub units-days : (w v d : ℕ) → day * w ≤ unitsOf w v d
-unfolding unitsOf
-units-days w v d = omega arith

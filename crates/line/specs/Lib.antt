@@ -1,12 +1,3 @@
 pub mod Date
 pub mod Grammar
 pub mod Reading
-pub mod Theorems
-pub mod Examples
-pub mod GrammarLaws
-pub mod MagnitudeLaws
-pub mod FitLaws
-pub mod SpelledLaws
-pub mod ReadLaws
-pub mod PlaceLaws
-pub mod AnswerLaws

@@ -1,14 +1,13 @@
 -- How a line is read: its six numbers from the front of a text, each with the byte that ends it.
-use Prim.Native.Nat.{ℕ, _+_, _-_, _^_, _<_, _≤_}
+use Prim.Native.Nat.{ℕ, _-_, _^_, _<_, _≤_}
 use mathlib.Core.Path.{_≡_}
-use mathlib.Core.Bool.{Bool, true, false, cond, _&&_}
+use mathlib.Core.Bool.{Bool, true, false, cond, not, _&&_}
 use mathlib.Core.List.{List, [], _∷_}
 use lib.ListN.{length, drop}
 use lib.Dec.{ltb, leb}
-use lib.IntN.{ℤ, pos, negsuc}
-use Rattle.bits.specs.Refusals.{limit, done, tooLong, badLine}
+use Rattle.bits.specs.Refusals.{longest, tooLong, badLine, _⟶_, firstRefusal, ifDone}
 use Rattle.record.specs.declared.Record.{Record}
-use Rattle.record.specs.Record.{starBits, dateBits, limitBits, magnitudeBits, errorBits, filterBits, noRecord}
+use Rattle.record.specs.Record.{depth, fits, recordOf, noRecord}
 use Rattle.digits.specs.Digits.{comma, point, minus, newline}
 use Rattle.digits.specs.Reading.{Part, part, most, starts, wholeAt, decimalsAt}
 use Rattle.line.specs.declared.LineRead.{LineRead}
@@ -30,25 +29,17 @@ thousandthsAt s =
     let d : Part = decimalsAt 3 3 comma (w .rest) in
     part (thousandths (w .value) (d .value)) 0 (d .rest)
 
--- how far below zero magnitudes go
-abbrev pub depth : ℕ
-depth = 2 ^ 15
+-- n thousandths, with a minus or without, in two's complement of 64 bits; minus zero, and what lies too far below zero, fits nowhere
+unfoldable pub complement : Bool → ℕ → ℕ
+complement false n = n
+complement true n = cond (leb 1 n && leb n depth) (2 ^ 64 - n) most
 
--- the distance from the least magnitude of n thousandths, with a minus or without; minus zero, and what lies below the least, is too far
-unfoldable pub distance : Bool → ℕ → ℕ
-distance false n = depth + n
-distance true n = cond (leb 1 n && leb n depth) (depth - n) most
-
--- the magnitude at the front of a text, as its distance from the least
+-- the magnitude at the front of a text, in two's complement of 64 bits
 unfoldable pub magnitudeAt : List ℕ → Part
 magnitudeAt s =
     let b : Bool = starts minus s in
     let m : Part = thousandthsAt (cond b (drop 1 s) s) in
-    part (distance b (m .value)) 0 (m .rest)
-
--- the magnitude at a distance from the least
-unfoldable pub fromLeast : ℕ → ℤ
-fromLeast n = cond (ltb n depth) (negsuc (depth - 1 - n)) (pos (n - depth))
+    part (complement b (m .value)) 0 (m .rest)
 
 -- six numbers as they are read, and the text behind them
 pub record Six : Type 0 where
@@ -79,25 +70,13 @@ sixAt s =
       rest = f .rest;
     }
 
--- whether six numbers, the magnitude as a distance, fit their fields
-unfoldable pub fit : ℕ → ℕ → ℕ → ℕ → ℕ → ℕ → Bool
-fit star date limit magnitude error filter =
-    ltb star (2 ^ starBits)
-    && (ltb date (2 ^ dateBits)
-    && (ltb limit (2 ^ limitBits)
-    && (ltb magnitude (2 ^ magnitudeBits) && (ltb error (2 ^ errorBits) && ltb filter (2 ^ filterBits)))))
-
--- their record
-abbrev pub recordOf : ℕ → ℕ → ℕ → ℕ → ℕ → ℕ → Record
-recordOf a b c d e f = record { star = a; date = b; limit = c; magnitude = fromLeast d; error = e; filter = f }
-
--- whether a text begins with a line
-abbrev pub begins : List ℕ → Bool
-begins s = let x : Six = sixAt s in fit (x .star) (x .date) (x .limit) (x .magnitude) (x .error) (x .filter)
-
 -- the record of a text's first line
 abbrev pub firstOf : List ℕ → Record
 firstOf s = let x : Six = sixAt s in recordOf (x .star) (x .date) (x .limit) (x .magnitude) (x .error) (x .filter)
+
+-- whether a text begins with a line
+abbrev pub begins : List ℕ → Bool
+begins s = fits (firstOf s)
 
 -- the text behind its first line
 abbrev pub behind : List ℕ → List ℕ
@@ -112,11 +91,13 @@ isNil (b ∷ s) = false
 abbrev pub lineRead : ℕ → Record → LineRead
 lineRead e r = record { refusal = e; «record» = r }
 
--- read_line: 1 past the limit, 7 for a text that is not one line
+-- 1 past the limit, 7 for a text that is not one line
+unfoldable pub lineRefusal : List ℕ → ℕ
+lineRefusal s = firstRefusal (ltb longest (length s) ⟶ tooLong ∷ not (begins s && isNil (behind s)) ⟶ badLine ∷ [])
+
+-- what read_line answers
 unfoldable pub readLine : List ℕ → LineRead
-readLine s =
-    cond (ltb limit (length s)) (lineRead tooLong noRecord)
-    (cond (begins s && isNil (behind s)) (lineRead done (firstOf s)) (lineRead badLine noRecord))
+readLine s = lineRead (lineRefusal s) (ifDone (lineRefusal s) (firstOf s) noRecord)
 
 -- line_at: whether a line begins at a place, its record, and the place of the text behind it, which lies further on
 pub record LineStands (s : List ℕ) (at : ℕ) (r : LineAt) : Type 0 where

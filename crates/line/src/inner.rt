@@ -3,12 +3,12 @@ use digits::inner::PartAt;
 use record::Record;
 ghost use mathlib.Core.Path.{_≡_};
 ghost use mathlib.Core.Bool.{true};
-ghost use Prim.Native.Nat.{_^_, _≤_, _<_};
+ghost use Prim.Native.Nat.{_^_, _≤_};
 ghost use lib.ListN.{length, drop};
 ghost use Rattle.digits.specs.Reading.{most, Stands};
-ghost use Rattle.record.specs.Record.{magnitudeBits};
+ghost use Rattle.record.specs.Record.{fits, recordOf};
 ghost use Rattle.line.specs.Date.{unitsOf};
-ghost use Rattle.line.specs.Reading.{dateAt, thousandthsAt, distance, magnitudeAt, fit, fromLeast, recordOf, LineStands};
+ghost use Rattle.line.specs.Reading.{dateAt, thousandthsAt, complement, magnitudeAt, LineStands};
 
 // The units of 10^-5 day in a day.
 pub const DAY: u64 = 100_000;
@@ -78,20 +78,20 @@ fn thousandths_at(src: &[u8], at: usize) -> PartAt
     }
 }
 
-// The distance of minus n thousandths from the least magnitude; minus zero is none.
+// Minus n thousandths in two's complement of 64 bits; minus zero, and what lies too far below zero, fits nowhere.
 fn below_zero(n: u64) -> u64
-    ensures { λ r. ⌜ r ≡ distance true n ⌝ }
+    ensures { λ r. ⌜ r ≡ complement true n ⌝ }
 {
     if 1 <= n {
         if n <= DEPTH {
-            return DEPTH - n;
+            return 0xffff_ffff_ffff_ffff - (n - 1);
         }
         return digits::inner::MOST;
     }
     digits::inner::MOST
 }
 
-// The magnitude at a place, and its comma, as its distance from the least.
+// The magnitude at a place, and its comma, in two's complement of 64 bits.
 fn magnitude_at(src: &[u8], at: usize) -> PartAt
     requires { ⌜ at ≤ length (now src) ⌝ }
     ensures { λ r. ⌜ Stands (now (src .entry)) r (magnitudeAt (drop at (now (src .entry)))) ⌝ }
@@ -106,56 +106,22 @@ fn magnitude_at(src: &[u8], at: usize) -> PartAt
     }
     let number = thousandths_at(src, at);
     PartAt {
-        value: DEPTH + number.value,
+        value: number.value,
         count: 0,
         next: number.next,
     }
 }
 
-// The magnitude at a distance from the least.
-fn from_least(n: u64) -> i16
-    requires { ⌜ n < 2 ^ magnitudeBits ⌝ }
-    ensures { λ r. ⌜ r ≡ fromLeast n ⌝ }
-{
-    if n < DEPTH {
-        -1 - ((DEPTH - 1 - n) as i16)
-    } else {
-        (n - DEPTH) as i16
-    }
-}
-
-// Whether six numbers fit their fields.
-fn all_fit(star: u64, date: u64, limit: u64, magnitude: u64, error: u64, filter: u64) -> bool
-    ensures { λ r. ⌜ r ≡ fit star date limit magnitude error filter ⌝ }
-{
-    if star < 0x10_0000 {
-        if date < 0x40_0000_0000 {
-            if limit < 2 {
-                if magnitude < 0x1_0000 {
-                    if error < 0x400 {
-                        return filter < 16;
-                    }
-                    return false;
-                }
-                return false;
-            }
-            return false;
-        }
-        return false;
-    }
-    false
-}
-
 // The record of six numbers as they are read.
 fn record_of(star: u64, date: u64, limit: u64, magnitude: u64, error: u64, filter: u64) -> Record
-    requires { ⌜ fit star date limit magnitude error filter ≡ true ⌝ }
+    requires { ⌜ fits (recordOf star date limit magnitude error filter) ≡ true ⌝ }
     ensures { λ r. ⌜ r ≡ recordOf star date limit magnitude error filter ⌝ }
 {
     Record {
         star: star as u32,
         date,
         limit: limit as u8,
-        magnitude: from_least(magnitude),
+        magnitude: sign::inner::signed_of_bits(magnitude) as i16,
         error: error as u16,
         filter: filter as u8,
     }
@@ -177,7 +143,7 @@ pub fn line_at(src: &[u8], at: usize) -> LineAt
     let error = thousandths_at(src, behind_magnitude);
     let behind_error = error.next;
     let filter = digits::inner::whole_at(src, behind_error, b'\n');
-    if all_fit(
+    if record::inner::six_fit(
         star.value,
         date.value,
         limit.value,

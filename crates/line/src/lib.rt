@@ -13,10 +13,13 @@ pub struct LineRead {
 }
 
 // The record that a line names, or refusal 1 (past the limit) or 7 (no line). The slice is the line with its newline, and nothing more.
+//     let read = line::read_line(b"5,2460523.64817,0,-1.440,0.012,3\n");
+//     let named = read.record;
+//     expect(b"read_line", named.magnitude == -1440);
 pub fn read_line(src: &[u8]) -> LineRead
     ensures { λ r. ⌜ r ≡ readLine (now (src .entry)) ⌝ }
 {
-    if refusals::LIMIT < src.len() {
+    if refusals::LONGEST < src.len() {
         return LineRead {
             refusal: refusals::TOO_LONG,
             record: record::inner::no_record(),

@@ -1,13 +1,13 @@
 -- The line of a record, and what write_line answers.
 use Prim.Native.Nat.{ℕ, _+_, _/_, _%_}
-use mathlib.Core.Bool.{Bool, cond}
-use mathlib.Core.List.{List, []}
+use mathlib.Core.Bool.{Bool, cond, not}
+use mathlib.Core.List.{List, [], _∷_}
 use lib.ListN.{length}
 use lib.Seq.{sets}
-use lib.Dec.{ltb, eqb}
+use lib.Dec.{ltb}
 use lib.IntN.{ℤ, pos, natAbs}
 use lib.Signed.{ltZ}
-use Rattle.bits.specs.Refusals.{limit, done, tooLong, tooLarge, noRoom}
+use Rattle.bits.specs.Refusals.{longest, tooLong, tooLarge, noRoom, _⟶_, firstRefusal, ifDone}
 use Rattle.record.specs.declared.Record.{Record}
 use Rattle.record.specs.Record.{fits}
 use Rattle.line.specs.Date.{day}
@@ -52,17 +52,20 @@ sizeOf r =
 -- 1 for an output past the limit, 4 for a number too large for its field, 8 for no room
 unfoldable pub writeRefusal : Record → ℕ → ℕ
 writeRefusal r room =
-    cond (ltb limit room) tooLong
-    (cond (fits r) (cond (ltb room (length (lineOf r))) noRoom done) tooLarge)
+    firstRefusal
+    (ltb longest room ⟶ tooLong
+    ∷ not (fits r) ⟶ tooLarge
+    ∷ ltb room (length (lineOf r)) ⟶ noRoom
+    ∷ [])
 
 -- write_line: the refusal number, and the line's length or 0
 unfoldable pub writeLine : Record → ℕ → LineWrote
 writeLine r room =
     record {
       refusal = writeRefusal r room;
-      length = cond (eqb (writeRefusal r room) done) (length (lineOf r)) 0;
+      length = ifDone (writeRefusal r room) (length (lineOf r)) 0;
     }
 
 -- the output: the line at its front, the rest untouched; all of it untouched with a refusal
 unfoldable pub writeOut : Record → List ℕ → List ℕ
-writeOut r out = cond (eqb (writeRefusal r (length out)) done) (sets out 0 (lineOf r)) out
+writeOut r out = ifDone (writeRefusal r (length out)) (sets out 0 (lineOf r)) out

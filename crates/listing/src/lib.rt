@@ -15,11 +15,13 @@ pub struct LineWrote {
 
 // Writes a record's line to the front of a lent output, and answers its length. What lies past the line is untouched, and all of the output
 // on a refusal: 1 (past the limit), 4 (a number too large for its field), 8 (no room for the line).
+//     let wrote = listing::write_line(found, &mut out);
+//     expect(b"write_line", wrote.length == 33);
 pub fn write_line(r: Record, out: &mut [u8]) -> LineWrote
     ensures answer { λ w. ⌜ w ≡ writeLine r (length (now (out .entry))) ⌝ }
     ensures memory { λ _. ⌜ now (out .exit) ≡ writeOut r (now (out .entry)) ⌝ }
 {
-    if refusals::LIMIT < out.len() {
+    if refusals::LONGEST < out.len() {
         return LineWrote {
             refusal: refusals::TOO_LONG,
             length: 0,

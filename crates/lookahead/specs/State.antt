@@ -1,12 +1,12 @@
 -- The state of a cursor, when it belongs to a slice, and what reading leaves.
 use Prim.Native.Nat.{ℕ, _+_, _*_, _≤_}
 use mathlib.Core.Path.{_≡_}
-use mathlib.Core.List.{List}
-use mathlib.Core.Bool.{Bool, cond, _&&_}
+use mathlib.Core.List.{List, [], _∷_}
+use mathlib.Core.Bool.{Bool, not, _&&_}
 use lib.ListN.{length}
 use lib.Dec.{leb, eqb, ltb}
 use Rattle.bits.specs.declared.Order.{Order}
-use Rattle.bits.specs.Refusals.{limit, done, tooLong, foreign}
+use Rattle.bits.specs.Refusals.{longest, tooLong, foreign, _⟶_, firstRefusal}
 use Rattle.bits.specs.Field.{field}
 use Rattle.bits.specs.Word.{held}
 use Rattle.counts.specs.declared.Counts.{Counts}
@@ -34,13 +34,13 @@ belongs o s c =
 
 -- the same as a statement, of a slice within the limit
 pub record Belongs (o : Order) (s : List ℕ) (c : State) : Type 0 where
-  pub short : length s ≤ limit
+  pub short : length s ≤ longest
   pub within : Within (length s) (countsOf c)
   pub holds : c .register ≡ registerOf o s (countsOf c)
 
 -- 1 for a slice past the limit, 2 for a state that does not belong to it
 unfoldable pub stateRefusal : Order → List ℕ → State → ℕ
-stateRefusal o s c = cond (ltb limit (length s)) tooLong (cond (belongs o s c) done foreign)
+stateRefusal o s c = firstRefusal (ltb longest (length s) ⟶ tooLong ∷ not (belongs o s c) ⟶ foreign ∷ [])
 
 -- a read of w bits: the field at the place, and the state with the counts after it
 abbrev pub takenOf : Order → List ℕ → Counts → ℕ → Taken
@@ -48,4 +48,4 @@ takenOf o s k w = record { value = field o s (place k) w; state = stateOf o s (a
 
 -- whether a state with these counts, of a slice within the limit, has eight bytes before its offset and eight behind it
 unfoldable pub inside : ℕ → Counts → Bool
-inside len k = leb len limit && (leb (k .offset + 8) len && (leb 8 (k .offset) && leb (k .lookahead) 63))
+inside len k = leb len longest && (leb (k .offset + 8) len && (leb 8 (k .offset) && leb (k .lookahead) 63))

@@ -9,7 +9,7 @@ ghost use mathlib.Core.Bool.{true, _||_};
 ghost use Prim.Native.Nat.{_+_, _-_, _*_, _/_, _≤_};
 ghost use lib.ListN.{length};
 ghost use lib.Dec.{ltb};
-ghost use Rattle.bits.specs.Refusals.{limit};
+ghost use Rattle.bits.specs.Refusals.{longest};
 ghost use Rattle.bits.specs.Field.{field};
 ghost use Rattle.counts.specs.Counts.{place, Within, bitsLeft, refillIf, afterRefill, afterTake};
 ghost use Rattle.lookahead.specs.State.{registerOf, countsOf, stateOf, belongs, Belongs, stateRefusal, takenOf, inside as inside·of};
@@ -77,7 +77,7 @@ pub fn state_at(order: Order, src: &[u8], k: Counts) -> State
 
 // Whether a state belongs to a slice.
 fn is_of(order: Order, src: &[u8], c: State) -> bool
-    requires { ⌜ length (now src) ≤ limit ⌝ }
+    requires { ⌜ length (now src) ≤ longest ⌝ }
     ensures { λ r. ⌜ r ≡ belongs order (now (src .entry)) c ⌝ }
 {
     if src.len() < c.offset {
@@ -100,7 +100,7 @@ fn is_of(order: Order, src: &[u8], c: State) -> bool
 pub fn refusal(order: Order, src: &[u8], c: State) -> u32
     ensures { λ r. ⌜ r ≡ stateRefusal order (now (src .entry)) c ⌝ }
 {
-    if refusals::LIMIT < src.len() {
+    if refusals::LONGEST < src.len() {
         return refusals::TOO_LONG;
     }
     if is_of(order, src, c) {
@@ -246,7 +246,7 @@ pub fn read_bits(order: Order, src: &[u8], c: State, w: u32) -> Taken
 pub fn inside(len: usize, k: Counts) -> bool
     ensures { λ r. ⌜ r ≡ inside·of len k ⌝ }
 {
-    if refusals::LIMIT < len {
+    if refusals::LONGEST < len {
         return false;
     }
     if len < 8 {

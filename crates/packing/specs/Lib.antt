@@ -1,13 +1,1 @@
 pub mod Packing
-pub mod PartLaws
-pub mod BytesLaws
-pub mod EightBytesLaws
-pub mod StoredLaws
-pub mod BelongsLaws
-pub mod PutLaws
-pub mod StoryLaws
-pub mod HeldLaws
-pub mod PutWordLaws
-pub mod FrontLaws
-pub mod StretchLaws
-pub mod PutBytesLaws

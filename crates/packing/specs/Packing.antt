@@ -1,11 +1,11 @@
 -- What a writer holds, when it belongs to an output, and what putting bits behind those written leaves. An output has len bytes.
-use Prim.Native.Nat.{ℕ, zero, suc, _+_, _-_, _*_, _/_, _%_, _^_, _<_, _≤_}
+use Prim.Native.Nat.{ℕ, zero, suc, _+_, _*_, _/_, _%_, _^_, _<_, _≤_}
 use mathlib.Core.List.{List, [], _∷_}
-use mathlib.Core.Bool.{Bool, cond, _&&_}
+use mathlib.Core.Bool.{Bool, not, _&&_}
 use lib.Seq.{sets}
 use lib.Dec.{leb, ltb}
 use Rattle.bits.specs.declared.Order.{Order}
-use Rattle.bits.specs.Refusals.{limit, done, tooLong, foreign}
+use Rattle.bits.specs.Refusals.{longest, tooLong, foreign, _⟶_, firstRefusal}
 use Rattle.bits.specs.Field.{join, field}
 use Rattle.bits.specs.Word.{first, rest}
 use Rattle.packing.specs.declared.State.{State}
@@ -20,14 +20,14 @@ belongs len c = leb (bitsWritten c) (8 * len) && (leb (c .held) 7 && ltb (c .num
 
 -- the same as a statement, of an output within the limit
 pub record Belongs (len : ℕ) (c : State) : Type 0 where
-  pub short : len ≤ limit
+  pub short : len ≤ longest
   pub within : bitsWritten c ≤ 8 * len
   pub few : c .held ≤ 7
   pub small : c .number < 2 ^ c .held
 
 -- 1 for an output past the limit, 2 for a writer that does not belong to it
 unfoldable pub stateRefusal : ℕ → State → ℕ
-stateRefusal len c = cond (ltb limit len) tooLong (cond (belongs len c) done foreign)
+stateRefusal len c = firstRefusal (ltb longest len ⟶ tooLong ∷ not (belongs len c) ⟶ foreign ∷ [])
 
 -- the first n bytes of a number of 8 * n + r bits
 unfoldable pub bytesOf : Order → ℕ → ℕ → ℕ → List ℕ

@@ -6,14 +6,14 @@ ghost use mathlib.Core.Path.{_≡_};
 ghost use Prim.Native.Nat.{_+_, _-_, _*_, _%_, _^_, _<_, _≤_};
 ghost use lib.ListN.{length};
 ghost use lib.Seq.{sets};
-ghost use Rattle.bits.specs.Refusals.{limit};
+ghost use Rattle.bits.specs.Refusals.{longest};
 ghost use Rattle.bits.specs.Field.{join};
 ghost use Rattle.bits.specs.Word.{rest};
 ghost use Rattle.packing.specs.Packing.{bitsWritten, belongs, Belongs, stateRefusal, bytesOf, gathered, full, over, put, putOut, putBytes, putBytesOut};
 
 // Whether a writer belongs to an output of len bytes.
 fn is_of(len: usize, c: State) -> bool
-    requires { ⌜ len ≤ limit ⌝ }
+    requires { ⌜ len ≤ longest ⌝ }
     ensures { λ r. ⌜ r ≡ belongs len c ⌝ }
 {
     if 7 < c.held {
@@ -32,7 +32,7 @@ fn is_of(len: usize, c: State) -> bool
 pub fn refusal(len: usize, c: State) -> u32
     ensures { λ r. ⌜ r ≡ stateRefusal len c ⌝ }
 {
-    if refusals::LIMIT < len {
+    if refusals::LONGEST < len {
         return refusals::TOO_LONG;
     }
     if is_of(len, c) {
@@ -103,15 +103,6 @@ pub fn put_bits(order: Order, out: &mut [u8], c: State, n: u32, v: u64) -> State
         held: over,
         number: tail(order, v, n - over, over),
     }
-}
-
-// Up to 56 bits v behind those written.
-pub fn put_short(order: Order, out: &mut [u8], c: State, n: u32, v: u64) -> State
-    requires { ⌜ Belongs (length (now out)) c × (n ≤ 56) × (v < 2 ^ n) × (bitsWritten c + n ≤ 8 * length (now out)) ⌝ }
-    ensures answer { λ r. ⌜ r ≡ put order c n v ⌝ }
-    ensures memory { λ _. ⌜ now (out .exit) ≡ putOut order (now (out .entry)) c n v ⌝ }
-{
-    put_bits(order, out, c, n, v)
 }
 
 // The low n bits of a number.

@@ -7,12 +7,13 @@ use native.Mathlib.Numerals.{add-one}
 use native.Mathlib.Omega.{arith}
 use lib.ListN.{length, drop, getD}
 use lib.Seq.{sets, length-sets, drop-cons, drop-length}
-use Rattle.layout.specs.Layout.{item, bytesOf}
+use Rattle.layout.specs.Layout.{item}
+use Rattle.layout.specs.Bytes.{bytesOf}
 use Rattle.layout.specs.Plan.{code, count, ends, decode}
 use Rattle.layout.specs.Steps.{whole}
-use Rattle.layout.specs.StepLaws.{whole-take, whole-on}
-use Rattle.layout.specs.DecodeLaws.{decode-end, decode-on}
-use Rattle.layout.specs.TestLaws.{by-test}
+use Rattle.layout.proofs.StepLaws.{whole-take, whole-on}
+use Rattle.layout.proofs.DecodeLaws.{decode-end, decode-on}
+use Rattle.bits.proofs.TestLaws.{by-test}
 use Rattle.plan.specs.Run.{fieldsOf}
 
 -- the steps l are left, a bits of the next field are passed, and its bytes go to place at of out

@@ -1,2 +1,7 @@
 pub mod Decoding
 pub mod Reading
+pub mod RunLaws
+pub mod ValueLaws
+mod FieldReadLaws
+mod CompiledLaws
+pub mod Theorems

@@ -1,18 +1,18 @@
 -- What running a plan answers, by the fields of the layout that compiles to it, on every input.
 use Prim.Native.Nat.{ℕ, _+_}
-use mathlib.Core.Bool.{cond}
+use mathlib.Core.Bool.{cond, not}
 use mathlib.Core.List.{List, [], _∷_}
 use lib.ListN.{length}
 use lib.Seq.{sets}
 use lib.Dec.{eqb, ltb}
 use Rattle.bits.specs.declared.Order.{Order}
-use Rattle.bits.specs.Refusals.{limit, done, tooLong, badPlan, noRoom, tooFew, orElse}
+use Rattle.bits.specs.Refusals.{longest, tooLong, badPlan, noRoom, tooFew, _⟶_, firstRefusal, ifDone}
 use Rattle.bits.specs.Field.{field}
 use Rattle.bits.specs.Signed.{signed, pattern}
-use Rattle.counts.specs.Counts.{countsAt}
 use Rattle.reader.specs.declared.Cursor.{Cursor}
 use Rattle.reader.specs.declared.Moved.{Moved}
-use Rattle.reader.specs.Cursor.{place, bitsLeft, cursorAt, cursorRefusal}
+use Rattle.reader.specs.Answers.{moved}
+use Rattle.reader.specs.Cursor.{place, bitsLeft, goneTo, cursorRefusal}
 use Rattle.layout.specs.Layout.{Item, bitsOf}
 use Rattle.layout.specs.Plan.{decode}
 use Rattle.layout.specs.Check.{isPlan}
@@ -33,22 +33,20 @@ fieldsOf plan = decode 0 plan
 -- 1 for a plan or a slice past the limit, 2, 6 for bytes that are no plan, 8 for fewer results than fields, 9 for too few bits
 unfoldable pub runRefusal : Order → List ℕ → Cursor → List ℕ → ℕ → ℕ
 runRefusal o s c plan room =
-    orElse (cond (ltb limit (length plan)) tooLong done)
-    (orElse (cursorRefusal o s c)
-    (cond (isPlan plan)
-    (cond (ltb room (length (fieldsOf plan))) noRoom
-    (cond (ltb (bitsLeft s c) (bitsOf (fieldsOf plan))) tooFew done))
-    badPlan))
+    firstRefusal
+    (ltb longest (length plan) ⟶ tooLong
+    ∷ cursorRefusal o s c
+    ∷ not (isPlan plan) ⟶ badPlan
+    ∷ ltb room (length (fieldsOf plan)) ⟶ noRoom
+    ∷ ltb (bitsLeft s c) (bitsOf (fieldsOf plan)) ⟶ tooFew
+    ∷ [])
 
 -- the cursor where the last field ends, with the fewest bits held
 unfoldable pub runOf : Order → List ℕ → Cursor → List ℕ → ℕ → Moved
 runOf o s c plan room =
-    record {
-      refusal = runRefusal o s c plan room;
-      cursor = cond (eqb (runRefusal o s c plan room) done) (cursorAt o s (countsAt (place c + bitsOf (fieldsOf plan)))) c;
-    }
+    moved (runRefusal o s c plan room) (ifDone (runRefusal o s c plan room) (goneTo o s c (place c + bitsOf (fieldsOf plan))) c)
 
 -- a pattern a field at the front of the results, the rest untouched
 unfoldable pub runOut : Order → List ℕ → Cursor → List ℕ → List ℕ → List ℕ
 runOut o s c plan out =
-    cond (eqb (runRefusal o s c plan (length out)) done) (sets out 0 (valuesOf o s (place c) (fieldsOf plan))) out
+    ifDone (runRefusal o s c plan (length out)) (sets out 0 (valuesOf o s (place c) (fieldsOf plan))) out

@@ -8,11 +8,11 @@ ghost use mathlib.Core.List.{[], _∷_};
 ghost use Prim.Native.Nat.{_+_, _-_, _*_, _^_, _<_, _≤_};
 ghost use lib.ListN.{length, take};
 ghost use lib.Seq.{sets};
-ghost use Rattle.bits.specs.Refusals.{limit, done};
+ghost use Rattle.bits.specs.Refusals.{longest, done};
 ghost use Rattle.bits.specs.Field.{field};
-ghost use Rattle.bits.specs.Signed.{signed, pattern as pattern·of};
 ghost use Rattle.reader.specs.Cursor.{place as place·of};
-ghost use Rattle.layout.specs.Layout.{itemsOf, bytesOf, isLayout, bitsOf};
+ghost use Rattle.layout.specs.Layout.{itemsOf, isLayout, bitsOf};
+ghost use Rattle.layout.specs.Bytes.{bytesOf};
 ghost use Rattle.layout.specs.Plan.{ends, code};
 ghost use Rattle.layout.specs.Check.{isPlan};
 ghost use Rattle.plan.specs.Run.{patternOf, valuesOf, fieldsOf, runRefusal};
@@ -21,15 +21,15 @@ ghost use Rattle.plan.specs.Run.{patternOf, valuesOf, fieldsOf, runRefus
 pub fn run_refusal(cursor: Cursor, order: Order, src: &[u8], plan: &[u8], room: usize) -> u32
     ensures { λ r. ⌜ r ≡ runRefusal order (now (src .entry)) cursor (now (plan .entry)) room ⌝ }
 {
-    if refusals::LIMIT < plan.len() {
+    if refusals::LONGEST < plan.len() {
         return refusals::TOO_LONG;
     }
-    let refusal = lookahead::inner::refusal(order, src, reader::inner::state_in(cursor));
+    let refusal = reader::inner::refusal(order, src, cursor);
     if refusal != refusals::DONE {
         return refusal;
     }
-    if layout::inner::is_plan(plan) {
-        let size = layout::inner::measure(plan);
+    if layout::inner::check::is_plan(plan) {
+        let size = layout::inner::size::measure(plan);
         if room < size.fields {
             return refusals::NO_ROOM;
         }
@@ -49,7 +49,7 @@ fn put_item(layout: &mut [u8], at: usize, b: u8, w: u8) -> usize
     ensures answer { λ r. ⌜ r ≡ cond (ends b) (at + 2) at ⌝ }
     ensures memory { λ _. ⌜ now (layout .exit) ≡ cond (ends b) (sets (now (layout .entry)) at ((code b - 1) ∷ w ∷ [])) (now (layout .entry)) ⌝ }
 {
-    if layout::inner::ends(b) {
+    if layout::inner::steps::ends(b) {
         layout[at] = b / 64 - 1;
         layout[at + 1] = w;
         return at + 2;
@@ -61,7 +61,7 @@ fn put_item(layout: &mut [u8], at: usize, b: u8, w: u8) -> usize
 fn next_open(b: u8, w: u8) -> u8
     ensures { λ r. ⌜ r ≡ cond (ends b) 0 w ⌝ }
 {
-    if layout::inner::ends(b) { 0 } else { w }
+    if layout::inner::steps::ends(b) { 0 } else { w }
 }
 
 // Writes the layout that compiles to a plan; the answer is its length.
@@ -85,29 +85,21 @@ pub fn decode(plan: &[u8], layout: &mut [u8]) -> usize
 
 // ---- the fields of a layout
 
-// The top bit of w bits spread over 64: two's complement.
-fn spread(w: u32, v: u64) -> u64
-    requires { ⌜ (w ≤ 64) × (v < 2 ^ w) ⌝ }
-    ensures { λ r. ⌜ r ≡ pattern·of 64 (signed w v) ⌝ }
-{
-    if w == 0 {
-        return 0;
-    }
-    let m: u64 = 1 << (w - 1);
-    std::num::wrapping_sub_u64(v ^ m, m)
-}
-
 // The 64 bits of a field of a kind.
 fn pattern(kind: u8, w: u32, v: u64) -> u64
     requires { ⌜ (w ≤ 64) × (v < 2 ^ w) ⌝ }
     ensures { λ r. ⌜ r ≡ patternOf kind w v ⌝ }
 {
-    if kind == 1 { spread(w, v) } else { v }
+    if kind == 1 {
+        sign::inner::widened(v, w)
+    } else {
+        v
+    }
 }
 
 // A field by its place; `inside` tells that 64 bits are there from its end on, and no load tests for the end.
 fn field_in(inside: bool, order: Order, src: &[u8], place: usize, width: u32) -> u64
-    requires { ⌜ (width ≤ 64) × (place + width ≤ 8 * length (now src)) × (length (now src) ≤ limit) × (inside ≡ true → place + width + 64 ≤ 8 * length (now src)) ⌝ }
+    requires { ⌜ (width ≤ 64) × (place + width ≤ 8 * length (now src)) × (length (now src) ≤ longest) × (inside ≡ true → place + width + 64 ≤ 8 * length (now src)) ⌝ }
     ensures { λ r. ⌜ r ≡ field order (now (src .entry)) place width ⌝ }
 {
     if inside {
@@ -124,7 +116,7 @@ fn field_in(inside: bool, order: Order, src: &[u8], place: usize, width: u32) ->
 
 // Reads every field of a layout from a place on, each by its place; the answer is the place where the last field ends.
 pub fn fields(order: Order, src: &[u8], layout: &[u8], place: usize, results: &mut [u64]) -> usize
-    requires { ⌜ (length (now src) ≤ limit) × (isLayout (now layout) ≡ true) × (place + bitsOf (itemsOf (now layout)) ≤ 8 * length (now src)) × (length (itemsOf (now layout)) ≤ length (now results)) ⌝ }
+    requires { ⌜ (length (now src) ≤ longest) × (isLayout (now layout) ≡ true) × (place + bitsOf (itemsOf (now layout)) ≤ 8 * length (now src)) × (length (itemsOf (now layout)) ≤ length (now results)) ⌝ }
     ensures answer { λ r. ⌜ r ≡ place + bitsOf (itemsOf (now (layout .entry))) ⌝ }
     ensures memory { λ _. ⌜ now (results .exit) ≡ sets (now (results .entry)) 0 (valuesOf order (now (src .entry)) place (itemsOf (now (layout .entry)))) ⌝ }
 {
@@ -145,7 +137,7 @@ pub fn fields(order: Order, src: &[u8], layout: &[u8], place: usize, results: &m
 
 // Runs a plan from a place on: decodes it, and reads its fields.
 pub fn run_plan(order: Order, src: &[u8], plan: &[u8], place: usize, results: &mut [u64]) -> usize
-    requires { ⌜ (length (now src) ≤ limit) × (isPlan (now plan) ≡ true) × (place + bitsOf (fieldsOf (now plan)) ≤ 8 * length (now src)) × (length (fieldsOf (now plan)) ≤ length (now results)) ⌝ }
+    requires { ⌜ (length (now src) ≤ longest) × (isPlan (now plan) ≡ true) × (place + bitsOf (fieldsOf (now plan)) ≤ 8 * length (now src)) × (length (fieldsOf (now plan)) ≤ length (now results)) ⌝ }
     ensures answer { λ r. ⌜ r ≡ place + bitsOf (fieldsOf (now (plan .entry))) ⌝ }
     ensures memory { λ _. ⌜ now (results .exit) ≡ sets (now (results .entry)) 0 (valuesOf order (now (src .entry)) place (fieldsOf (now (plan .entry)))) ⌝ }
 {
@@ -171,8 +163,8 @@ fn not_narrow() -> Narrow
 
 // Checks a plan and reads its fields in one go, if none is wide.
 fn read_narrow(order: Order, src: &[u8], plan: &[u8], place: usize, values: &mut [u64]) -> Narrow
-    requires { ⌜ (length (now src) ≤ limit) × (length (now plan) ≤ 256) × (place + 64 * length (now plan) + 64 ≤ 8 * length (now src)) × (64 ≤ length (now values)) ⌝ }
-    ensures answer { λ r. ⌜ (r .fields ≤ 64 → (isPlan (now (plan .entry)) ≡ true) × (r .fields ≡ length (fieldsOf (now (plan .entry)))) × (r .end ≡ place + bitsOf (fieldsOf (now (plan .entry)))) × (r .end ≤ 8 * length (now (src .entry)))) ⌝ }
+    requires { ⌜ (length (now src) ≤ longest) × (length (now plan) ≤ 256) × (place + 64 * length (now plan) + 64 ≤ 8 * length (now src)) × (64 ≤ length (now values)) ⌝ }
+    ensures answer { λ r. ⌜ (r .fields ≤ 64 → (isPlan (now (plan .entry)) ≡ true) × (r .fields ≡ length (fieldsOf (now (plan .entry)))) × (r .end ≡ place + bitsOf (fieldsOf (now (plan .entry)))) × (r .end ≤ place + 64 * length (now (plan .entry)))) ⌝ }
     ensures memory { λ r. ⌜ (r .fields ≤ 64 → now (values .exit) ≡ sets (now (values .entry)) 0 (valuesOf order (now (src .entry)) place (fieldsOf (now (plan .entry))))) ⌝ }
 {
     let mut at = place;
@@ -181,7 +173,7 @@ fn read_narrow(order: Order, src: &[u8], plan: &[u8], place: usize, values: &mut
     let mut g: u32 = 0;
     while i < plan.len() {
         if plan[i] == 0 {
-            if layout::inner::wanted(plan, i + 1, g) {
+            if layout::inner::check::wanted(plan, i + 1, g) {
                 i += 1;
                 g = 56;
             } else {
@@ -189,11 +181,11 @@ fn read_narrow(order: Order, src: &[u8], plan: &[u8], place: usize, values: &mut
             }
         }
         let b = plan[i];
-        let w = layout::inner::count(b);
+        let w = layout::inner::steps::count(b);
         if g < w {
             return not_narrow();
         }
-        if layout::inner::ends(b) {
+        if layout::inner::steps::ends(b) {
             if j == 64 {
                 return not_narrow();
             }
@@ -223,8 +215,8 @@ fn put_front(results: &mut [u64], values: &[u64], n: usize)
 
 // Runs a plan in one go, if no field is wide and there is room; else nothing is put.
 fn run_narrow(order: Order, src: &[u8], plan: &[u8], place: usize, results: &mut [u64]) -> Narrow
-    requires { ⌜ (length (now src) ≤ limit) × (length (now plan) ≤ 256) × (place + 64 * length (now plan) + 64 ≤ 8 * length (now src)) ⌝ }
-    ensures answer { λ r. ⌜ (r .fields ≤ 64 → (isPlan (now (plan .entry)) ≡ true) × (length (fieldsOf (now (plan .entry))) ≤ length (now (results .entry))) × (r .end ≡ place + bitsOf (fieldsOf (now (plan .entry)))) × (r .end ≤ 8 * length (now (src .entry)))) ⌝ }
+    requires { ⌜ (length (now src) ≤ longest) × (length (now plan) ≤ 256) × (place + 64 * length (now plan) + 64 ≤ 8 * length (now src)) ⌝ }
+    ensures answer { λ r. ⌜ (r .fields ≤ 64 → (isPlan (now (plan .entry)) ≡ true) × (length (fieldsOf (now (plan .entry))) ≤ length (now (results .entry))) × (r .end ≡ place + bitsOf (fieldsOf (now (plan .entry)))) × (r .end ≤ place + 64 * length (now (plan .entry)))) ⌝ }
     ensures memory { λ r. ⌜ (r .fields ≤ 64 → now (results .exit) ≡ sets (now (results .entry)) 0 (valuesOf order (now (src .entry)) place (fieldsOf (now (plan .entry))))) × (64 < r .fields → now (results .exit) ≡ now (results .entry)) ⌝ }
 {
     let mut values = [0u64; 64];
@@ -253,12 +245,12 @@ pub fn run_quick(
     if 256 < plan.len() {
         return not_narrow();
     }
-    let refusal = lookahead::inner::refusal(order, src, reader::inner::state_in(cursor));
+    let refusal = reader::inner::refusal(order, src, cursor);
     if refusal != refusals::DONE {
         return not_narrow();
     }
-    let place = 8 * cursor.offset - cursor.lookahead as usize;
-    if 8 * src.len() < place + 64 * plan.len() + 64 {
+    let place = reader::inner::place_of(src, cursor);
+    if reader::inner::stop(src, cursor) < place + 64 * plan.len() + 64 {
         return not_narrow();
     }
     match order {

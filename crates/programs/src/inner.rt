@@ -58,7 +58,7 @@ pub fn list() -> usize
 {
     let mut space = [0u8; 65537];
     let input = read_input(&mut space);
-    let n = tokens::inner::within(&space, input.count);
+    let n = script_words::inner::within(&space, input.count);
     if input.failed {
         tell(b"standard input can't be read\n");
         return n;
@@ -69,7 +69,7 @@ pub fn list() -> usize
     }
     let mut out = [0u8; 262144];
     let listed = text::list_text(&space[..n], &mut out);
-    let length = tokens::inner::within(&out, listed.length);
+    let length = script_words::inner::within(&out, listed.length);
     write_output(&out[..length]);
     n
 }
@@ -81,7 +81,7 @@ pub fn pack() -> usize
 {
     let mut space = [0u8; 65537];
     let input = read_input(&mut space);
-    let n = tokens::inner::within(&space, input.count);
+    let n = script_words::inner::within(&space, input.count);
     if input.failed {
         tell(b"standard input can't be read\n");
         return n;
@@ -96,7 +96,7 @@ pub fn pack() -> usize
         write_bad_line(packed.line as u64);
         return n;
     }
-    let length = tokens::inner::within(&out, packed.length);
+    let length = script_words::inner::within(&out, packed.length);
     write_output(&out[..length]);
     n
 }

@@ -1,14 +1,14 @@
 -- What each method of a cursor answers, on every input, in the order of the methods.
 use Prim.Native.Nat.{ℕ, _-_, _/_, _%_}
-use mathlib.Core.List.{List, []}
-use mathlib.Core.Bool.{Bool, false, cond}
+use mathlib.Core.List.{List, [], _∷_}
+use mathlib.Core.Bool.{Bool, false}
 use lib.ListN.{length, drop}
-use lib.Dec.{eqb, leb, ltb}
+use lib.Dec.{eqb, ltb}
 use Rattle.bits.specs.declared.Order.{Order}
-use Rattle.bits.specs.Refusals.{limit, done, tooLong, tooWide, tooFew, pastLookahead, orElse}
+use Rattle.bits.specs.Refusals.{longest, done, tooLong, tooWide, tooFew, pastLookahead, _⟶_, firstRefusal, ifDone}
 use Rattle.bits.specs.Field.{field}
 use Rattle.bits.specs.Signed.{signed}
-use Rattle.counts.specs.Counts.{unfetched, afterRefill, afterTake, afterRead, afterBytes}
+use Rattle.counts.specs.Counts.{afterRefill, afterTake, afterRead, afterBytes}
 use Rattle.octets.specs.Octets.{octets}
 use Rattle.floats.specs.Floats.{singleOf, doubleOf}
 use Rattle.reader.specs.declared.Cursor.{Cursor}
@@ -29,29 +29,47 @@ use Rattle.reader.specs.declared.Ahead.{Ahead}
 use Rattle.reader.specs.declared.Peeked.{Peeked}
 use Rattle.reader.specs.declared.Moved.{Moved}
 use Rattle.reader.specs.declared.Partial.{Partial}
-use Rattle.reader.specs.Cursor.{countsIn, cursorAt, place, bitsLeft, bytesLeft, cursorRefusal}
+use Rattle.reader.specs.Cursor.{countsIn, cursorAt, place, bitsLeft, bytesLeft, aheadIn, cursorRefusal}
+
+-- ---- answers of two parts: a refusal number, and what is told, tested, seen or gone to
+
+abbrev pub counted : ℕ → ℕ → Counted
+counted e n = record { refusal = e; value = n }
+
+abbrev pub tested : ℕ → Bool → Tested
+tested e b = record { refusal = e; value = b }
+
+abbrev pub ahead : ℕ → ℕ → Ahead
+ahead e n = record { refusal = e; value = n }
+
+abbrev pub peeked : ℕ → ℕ → Peeked
+peeked e v = record { refusal = e; value = v }
+
+abbrev pub moved : ℕ → Cursor → Moved
+moved e c = record { refusal = e; cursor = c }
 
 -- ---- making one
 
 -- a fresh cursor is all zeros, also where the slice is past the limit
 unfoldable pub newOf : List ℕ → Moved
-newOf s =
-    record {
-      refusal = cond (ltb limit (length s)) tooLong done;
-      cursor = record { offset = 0; lookahead = 0; register = 0 };
-    }
+newOf s = moved (ltb longest (length s) ⟶ tooLong) (record { offset = 0; lookahead = 0; register = 0 })
 
 -- ---- fields
 
 -- 1 and 2, then 3 for a width above 64, then 9 where fewer bits are left
 unfoldable pub readRefusal : Order → List ℕ → Cursor → ℕ → ℕ
-readRefusal o s c w = orElse (cursorRefusal o s c) (cond (ltb 64 w) tooWide (cond (ltb (bitsLeft s c) w) tooFew done))
+readRefusal o s c w =
+    firstRefusal
+    (cursorRefusal o s c
+    ∷ ltb 64 w ⟶ tooWide
+    ∷ ltb (bitsLeft s c) w ⟶ tooFew
+    ∷ [])
 
 -- the field of w bits at the place, and the cursor behind it
 unfoldable pub readOf : Order → List ℕ → Cursor → ℕ → ReadU64
 readOf o s c w =
-    cond (eqb (readRefusal o s c w) done)
-    (record { refusal = done; value = field o s (place c) w; cursor = cursorAt o s (afterRead (length s) w (countsIn c)) })
+    ifDone (readRefusal o s c w)
+    (record { refusal = done; value = field o s (place c) w; cursor = cursorAt o s c (afterRead (length s) w (countsIn c)) })
     (record { refusal = readRefusal o s c w; value = 0; cursor = c })
 
 -- the same answer with its value as a bool, at a narrower type, as a signed number of w bits, or as a float
@@ -89,69 +107,57 @@ asF64 r = record { refusal = r .refusal; value = doubleOf (r .value); cursor = r
 
 -- a number that is told of a cursor that belongs
 unfoldable pub countedOf : Order → List ℕ → Cursor → ℕ → Counted
-countedOf o s c n = record { refusal = cursorRefusal o s c; value = cond (eqb (cursorRefusal o s c) done) n 0 }
+countedOf o s c n = counted (cursorRefusal o s c) (ifDone (cursorRefusal o s c) n 0)
 
 -- a test that is made of a cursor that belongs
 unfoldable pub testedOf : Order → List ℕ → Cursor → Bool → Tested
-testedOf o s c b = record { refusal = cursorRefusal o s c; value = cond (eqb (cursorRefusal o s c) done) b false }
+testedOf o s c b = tested (cursorRefusal o s c) (ifDone (cursorRefusal o s c) b false)
 
 -- ---- bytes
 
 -- 1 also for a buffer past the limit; 9 where fewer than n whole bytes are left
 unfoldable pub bytesRefusal : Order → List ℕ → Cursor → ℕ → ℕ
 bytesRefusal o s c n =
-    orElse (cond (ltb limit n) tooLong done) (orElse (cursorRefusal o s c) (cond (ltb (bytesLeft s c) n) tooFew done))
+    firstRefusal
+    (ltb longest n ⟶ tooLong
+    ∷ cursorRefusal o s c
+    ∷ ltb (bytesLeft s c) n ⟶ tooFew
+    ∷ [])
 
 unfoldable pub bytesOf : Order → List ℕ → Cursor → ℕ → Moved
-bytesOf o s c n =
-    record {
-      refusal = bytesRefusal o s c n;
-      cursor = cond (eqb (bytesRefusal o s c n) done) (cursorAt o s (afterBytes (length s) n (countsIn c))) c;
-    }
+bytesOf o s c n = moved (bytesRefusal o s c n) (ifDone (bytesRefusal o s c n) (cursorAt o s c (afterBytes (length s) n (countsIn c))) c)
 
 -- the buffer: fields of eight bits from the place on, or as it was
 unfoldable pub bytesOut : Order → List ℕ → Cursor → List ℕ → List ℕ
-bytesOut o s c out = cond (eqb (bytesRefusal o s c (length out)) done) (octets o s (place c) (length out)) out
+bytesOut o s c out = ifDone (bytesRefusal o s c (length out)) (octets o s (place c) (length out)) out
 
 -- ---- manual mode
 
 -- 1 and 2, then 10 for more bits than the lookahead has
 unfoldable pub manualRefusal : Order → List ℕ → Cursor → ℕ → ℕ
-manualRefusal o s c n = orElse (cursorRefusal o s c) (cond (ltb (c .lookahead) n) pastLookahead done)
+manualRefusal o s c n = firstRefusal (cursorRefusal o s c ∷ ltb (aheadIn s c) n ⟶ pastLookahead ∷ [])
 
 unfoldable pub peekOf : Order → List ℕ → Cursor → ℕ → Peeked
-peekOf o s c n =
-    record {
-      refusal = manualRefusal o s c n;
-      value = cond (eqb (manualRefusal o s c n) done) (field o s (place c) n) 0;
-    }
+peekOf o s c n = peeked (manualRefusal o s c n) (ifDone (manualRefusal o s c n) (field o s (place c) n) 0)
 
 unfoldable pub consumeOf : Order → List ℕ → Cursor → ℕ → Moved
-consumeOf o s c n =
-    record {
-      refusal = manualRefusal o s c n;
-      cursor = cond (eqb (manualRefusal o s c n) done) (cursorAt o s (afterTake n (countsIn c))) c;
-    }
+consumeOf o s c n = moved (manualRefusal o s c n) (ifDone (manualRefusal o s c n) (cursorAt o s c (afterTake n (countsIn c))) c)
 
 unfoldable pub aheadOf : Order → List ℕ → Cursor → Ahead
-aheadOf o s c = record { refusal = cursorRefusal o s c; value = cond (eqb (cursorRefusal o s c) done) (c .lookahead) 0 }
+aheadOf o s c = ahead (cursorRefusal o s c) (ifDone (cursorRefusal o s c) (aheadIn s c) 0)
 
 unfoldable pub refillOf : Order → List ℕ → Cursor → Moved
-refillOf o s c =
-    record {
-      refusal = cursorRefusal o s c;
-      cursor = cond (eqb (cursorRefusal o s c) done) (cursorAt o s (afterRefill (length s) (countsIn c))) c;
-    }
+refillOf o s c = moved (cursorRefusal o s c) (ifDone (cursorRefusal o s c) (cursorAt o s c (afterRefill (length s) (countsIn c))) c)
 
 -- ---- remainder
 
 -- the slice from the first whole unread byte on; empty with a refusal
 unfoldable pub remainderOf : Order → List ℕ → Cursor → List ℕ
-remainderOf o s c = cond (eqb (cursorRefusal o s c) done) (drop (c .offset - c .lookahead / 8) s) []
+remainderOf o s c = ifDone (cursorRefusal o s c) (drop (c .offset - c .lookahead / 8) s) []
 
 -- the bits before that byte: how many, and their value
 unfoldable pub partialOf : Order → List ℕ → Cursor → Partial
 partialOf o s c =
-    cond (eqb (cursorRefusal o s c) done)
+    ifDone (cursorRefusal o s c)
     (record { refusal = done; «partial_bits» = c .lookahead % 8; «partial_byte» = field o s (place c) (c .lookahead % 8) })
     (record { refusal = cursorRefusal o s c; «partial_bits» = 0; «partial_byte» = 0 })

@@ -1,4 +1,2 @@
 pub mod Cursor
 pub mod Answers
-pub mod AnswerLaws
-pub mod ReadLaws

@@ -9,11 +9,10 @@ use lookahead::Taken;
 ghost use mathlib.Core.Path.{_≡_};
 ghost use Prim.Native.Nat.{_*_, _≤_};
 ghost use lib.ListN.{length};
-ghost use Rattle.bits.specs.Refusals.{limit, done};
+ghost use Rattle.bits.specs.Refusals.{longest, done};
 ghost use Rattle.counts.specs.Counts as C;
-ghost use Rattle.lookahead.specs.State.{countsOf, stateOf, Belongs};
 ghost use Rattle.octets.specs.Octets.{octets};
-ghost use Rattle.reader.specs.Cursor.{stateIn, cursorWith, countsIn, cursorAt, bitsLeft, isInside};
+ghost use Rattle.reader.specs.Cursor.{stateIn, withState, countsIn, place, cursorAt, goneTo, bitsLeft, bytesLeft, aheadIn, stop as stop·of, cursorRefusal, isInside, Fits};
 ghost use Rattle.reader.specs.Answers.{readRefusal, readOf, bytesRefusal, manualRefusal};
 
 // The state of a cursor.
@@ -27,9 +26,9 @@ pub fn state_in(c: Cursor) -> State
     }
 }
 
-// The cursor with a state. No other code makes a cursor out of numbers.
-pub fn cursor_with(state: State) -> Cursor
-    ensures { λ r. ⌜ r ≡ cursorWith state ⌝ }
+// The cursor gone on to a state, the rest of it kept.
+pub fn with_state(c: Cursor, state: State) -> Cursor
+    ensures { λ r. ⌜ r ≡ withState c state ⌝ }
 {
     Cursor {
         offset: state.offset,
@@ -48,26 +47,65 @@ pub fn counts_in(c: Cursor) -> Counts
     }
 }
 
+// The refusal number of a cursor: 1, 2 or none.
+pub fn refusal(order: Order, src: &[u8], c: Cursor) -> u32
+    ensures { λ r. ⌜ r ≡ cursorRefusal order (now (src .entry)) c ⌝ }
+{
+    lookahead::inner::refusal(order, src, state_in(c))
+}
+
+// The place at which reading goes on, of a cursor that belongs.
+pub fn place_of(src: &[u8], c: Cursor) -> usize
+    requires { ⌜ Fits (now src) c ⌝ }
+    ensures { λ r. ⌜ r ≡ place c ⌝ }
+{
+    8 * c.offset - c.lookahead as usize
+}
+
+// The place at which reading stops, of a cursor that belongs.
+pub fn stop(src: &[u8], c: Cursor) -> usize
+    requires { ⌜ Fits (now src) c ⌝ }
+    ensures { λ r. ⌜ r ≡ stop·of (now (src .entry)) c ⌝ }
+{
+    8 * src.len()
+}
+
 // The bits left behind a cursor that belongs.
 pub fn bits_left(src: &[u8], c: Cursor) -> usize
-    requires { ⌜ C.Within (length (now src)) (countsIn c) × (length (now src) ≤ limit) ⌝ }
+    requires { ⌜ Fits (now src) c ⌝ }
     ensures { λ r. ⌜ r ≡ bitsLeft (now (src .entry)) c ⌝ }
 {
     counts::inner::bits_left(src.len(), counts_in(c))
 }
 
-// The refusal number of a read of `bits` bits.
-pub fn read_refusal(order: Order, src: &[u8], state: State, bits: u32) -> u32
-    ensures { λ r. ⌜ r ≡ readRefusal order (now (src .entry)) (cursorWith state) bits ⌝ }
+// The whole bytes left behind a cursor that belongs.
+pub fn bytes_left(src: &[u8], c: Cursor) -> usize
+    requires { ⌜ Fits (now src) c ⌝ }
+    ensures { λ r. ⌜ r ≡ bytesLeft (now (src .entry)) c ⌝ }
 {
-    let refusal = lookahead::inner::refusal(order, src, state);
-    if refusal != refusals::DONE {
-        return refusal;
+    counts::inner::bytes_left(src.len(), counts_in(c))
+}
+
+// The bits of lookahead of a cursor that belongs.
+pub fn ahead(src: &[u8], c: Cursor) -> u32
+    requires { ⌜ Fits (now src) c ⌝ }
+    ensures { λ r. ⌜ r ≡ aheadIn (now (src .entry)) c ⌝ }
+{
+    c.lookahead
+}
+
+// The refusal number of a read of `bits` bits.
+pub fn read_refusal(order: Order, src: &[u8], c: Cursor, bits: u32) -> u32
+    ensures { λ r. ⌜ r ≡ readRefusal order (now (src .entry)) c bits ⌝ }
+{
+    let own = refusal(order, src, c);
+    if own != refusals::DONE {
+        return own;
     }
     if 64 < bits {
         return refusals::TOO_WIDE;
     }
-    if bits_left(src, cursor_with(state)) < bits as usize {
+    if bits_left(src, c) < bits as usize {
         return refusals::TOO_FEW;
     }
     refusals::DONE
@@ -85,21 +123,24 @@ fn read_any(
 ) -> ReadU64
     ensures { λ r. ⌜ r ≡ readOf order (now (src .entry)) (record { offset = offset; lookahead = lookahead; register = register }) bits ⌝ }
 {
-    let state = State {
+    let c = Cursor {
         offset: offset,
         lookahead: lookahead,
         register: register,
     };
-    let refusal = read_refusal(order, src, state, bits);
+    let refusal = read_refusal(order, src, c, bits);
     if refusal != refusals::DONE {
         return ReadU64 {
             refusal: refusal,
             value: 0,
-            cursor: cursor_with(state),
+            cursor: c,
         };
     }
     if bits <= 56 {
-        return done_with(lookahead::inner::read_short(order, src, state, bits));
+        return done_with(
+            c,
+            lookahead::inner::read_short(order, src, state_in(c), bits),
+        );
     }
     let low = read_any(order, src, offset, lookahead, register, 56);
     let middle = low.cursor;
@@ -120,15 +161,15 @@ fn read_any(
     }
 }
 
-// The answer of a read that was done.
-pub fn done_with(taken: Taken) -> ReadU64
-    ensures { λ r. ⌜ r ≡ record { refusal = done; value = taken .value; cursor = cursorWith (taken .state) } ⌝ }
+// The answer of a read from a cursor that was done.
+pub fn done_with(c: Cursor, taken: Taken) -> ReadU64
+    ensures { λ r. ⌜ r ≡ record { refusal = done; value = taken .value; cursor = withState c (taken .state) } ⌝ }
 {
     let next = taken.state;
     ReadU64 {
         refusal: refusals::DONE,
         value: taken.value,
-        cursor: cursor_with(next),
+        cursor: with_state(c, next),
     }
 }
 
@@ -141,7 +182,7 @@ pub fn read_out(order: Order, src: &[u8], c: Cursor, bits: u32) -> ReadU64
     ReadU64 {
         refusal: read.refusal,
         value: read.value,
-        cursor: cursor_with(state_in(next)),
+        cursor: with_state(next, state_in(next)),
     }
 }
 
@@ -160,55 +201,55 @@ pub fn is_inside(order: Order, src: &[u8], c: Cursor, bits: u32) -> bool
 }
 
 // The refusal number of a peek or consume of `count` bits.
-pub fn manual_refusal(order: Order, src: &[u8], state: State, count: u32) -> u32
-    ensures { λ r. ⌜ r ≡ manualRefusal order (now (src .entry)) (cursorWith state) count ⌝ }
+pub fn manual_refusal(order: Order, src: &[u8], c: Cursor, count: u32) -> u32
+    ensures { λ r. ⌜ r ≡ manualRefusal order (now (src .entry)) c count ⌝ }
 {
-    let refusal = lookahead::inner::refusal(order, src, state);
-    if refusal != refusals::DONE {
-        return refusal;
+    let own = refusal(order, src, c);
+    if own != refusals::DONE {
+        return own;
     }
-    if state.lookahead < count {
+    if ahead(src, c) < count {
         return refusals::PAST_LOOKAHEAD;
     }
     refusals::DONE
 }
 
 // The refusal number of a read of n bytes.
-pub fn bytes_refusal(order: Order, src: &[u8], state: State, n: usize) -> u32
-    ensures { λ r. ⌜ r ≡ bytesRefusal order (now (src .entry)) (cursorWith state) n ⌝ }
+pub fn bytes_refusal(order: Order, src: &[u8], c: Cursor, n: usize) -> u32
+    ensures { λ r. ⌜ r ≡ bytesRefusal order (now (src .entry)) c n ⌝ }
 {
-    if refusals::LIMIT < n {
+    if refusals::LONGEST < n {
         return refusals::TOO_LONG;
     }
-    let refusal = lookahead::inner::refusal(order, src, state);
-    if refusal != refusals::DONE {
-        return refusal;
+    let own = refusal(order, src, c);
+    if own != refusals::DONE {
+        return own;
     }
-    if counts::inner::bytes_left(src.len(), counts_in(cursor_with(state))) < n {
+    if bytes_left(src, c) < n {
         return refusals::TOO_FEW;
     }
     refusals::DONE
 }
 
-// Fills the buffer from the place on, where the bytes are there; the bytes go by place, and the state is made of the counts after them.
-pub fn read_bytes(order: Order, src: &[u8], state: State, buf: &mut [u8]) -> State
-    requires { ⌜ Belongs order (now src) state × (length (now buf) ≤ C.bytesLeft (length (now src)) (countsOf state)) ⌝ }
-    ensures answer { λ r. ⌜ r ≡ stateOf order (now (src .entry)) (C.afterBytes (length (now (src .entry))) (length (now (buf .entry))) (countsOf state)) ⌝ }
-    ensures memory { λ _. ⌜ now (buf .exit) ≡ octets order (now (src .entry)) (C.place (countsOf state)) (length (now (buf .entry))) ⌝ }
+// Fills the buffer from the place on, where the bytes are there; the bytes go by place, and the cursor is made of the counts after them.
+pub fn read_bytes(order: Order, src: &[u8], c: Cursor, buf: &mut [u8]) -> Cursor
+    requires { ⌜ Fits (now src) c × (length (now buf) ≤ bytesLeft (now src) c) ⌝ }
+    ensures answer { λ r. ⌜ r ≡ cursorAt order (now (src .entry)) c (C.afterBytes (length (now (src .entry))) (length (now (buf .entry))) (countsIn c)) ⌝ }
+    ensures memory { λ _. ⌜ now (buf .exit) ≡ octets order (now (src .entry)) (place c) (length (now (buf .entry))) ⌝ }
 {
-    let k = Counts {
-        offset: state.offset,
-        lookahead: state.lookahead,
-    };
     let n = buf.len();
-    octets::inner::bytes_at(order, src, 8 * k.offset - k.lookahead as usize, buf);
-    lookahead::inner::state_at(order, src, counts::inner::after_bytes(src.len(), k, n))
+    octets::inner::bytes_at(order, src, place_of(src, c), buf);
+    let next = counts::inner::after_bytes(src.len(), counts_in(c), n);
+    with_state(c, lookahead::inner::state_at(order, src, next))
 }
 
-// The cursor at a place, with the fewest bits held.
-pub fn cursor_at(order: Order, src: &[u8], place: usize) -> Cursor
-    requires { ⌜ (place ≤ 8 * length (now src)) × (length (now src) ≤ limit) ⌝ }
-    ensures { λ r. ⌜ r ≡ cursorAt order (now (src .entry)) (C.countsAt place) ⌝ }
+// The cursor gone on to a place, with the fewest bits held, the rest of it kept.
+pub fn gone_to(order: Order, src: &[u8], c: Cursor, place: usize) -> Cursor
+    requires { ⌜ (place ≤ 8 * length (now src)) × (length (now src) ≤ longest) ⌝ }
+    ensures { λ r. ⌜ r ≡ goneTo order (now (src .entry)) c place ⌝ }
 {
-    cursor_with(lookahead::inner::state_at(order, src, counts::inner::counts_at(place)))
+    with_state(
+        c,
+        lookahead::inner::state_at(order, src, counts::inner::counts_at(place)),
+    )
 }

@@ -1,5 +1,6 @@
 // A cursor over a lent slice: bits, fields and bytes read in either order. Each method takes the slice too, tests that the cursor
-// belongs to it, and hands the cursor that goes on back by value. The methods stand in the order of the Rust's BitReader.
+// belongs to it, and hands the cursor that goes on back by value. The methods stand in the order of the Rust's BitReader. The examples are
+// those of the program example_calls: `start` is a fresh cursor, `full` a refilled one, `behind` one behind three bits.
 use bits::Order;
 use bits::refusals;
 use floats::Double;
@@ -8,8 +9,7 @@ ghost use mathlib.Core.Path.{_≡_};
 ghost use Prim.Native.Nat.{_%_};
 ghost use lib.Dec.{eqb, leb};
 ghost use lib.ListN.{length};
-ghost use Rattle.counts.specs.Counts.{unfetched};
-ghost use Rattle.reader.specs.Cursor.{countsIn, place, bitsLeft, bytesLeft};
+ghost use Rattle.reader.specs.Cursor.{place, bitsLeft, bytesLeft, unfetched};
 ghost use Rattle.reader.specs.Answers.{newOf, readOf, asBool, asU8, asI8, asU16, asI16, asU32, asI32, asF32, asSigned, asF64, countedOf, testedOf, bytesOf, bytesOut, peekOf, consumeOf, aheadOf, refillOf, remainderOf, partialOf};
 
 pub mod inner;
@@ -128,6 +128,8 @@ pub struct Partial {
 
 impl Cursor {
     // A cursor at the start of a slice, or refusal 1; all zeros either way.
+    //     let made = Cursor::new(b"\x5a\xff");
+    //     expect(b"Cursor::new", made.refusal == 0);
     pub fn new(src: &[u8]) -> Moved
         ensures { λ r. ⌜ r ≡ newOf (now (src .entry)) ⌝ }
     {
@@ -136,7 +138,7 @@ impl Cursor {
             lookahead: 0,
             register: 0,
         };
-        if refusals::LIMIT < src.len() {
+        if refusals::LONGEST < src.len() {
             return Moved {
                 refusal: refusals::TOO_LONG,
                 cursor: cursor,
@@ -148,7 +150,24 @@ impl Cursor {
         }
     }
 
+    // The cursor of these three numbers, which need not belong to any slice: each call tests that. For tests, and for callers that keep
+    // a cursor's numbers.
+    //     let far = Cursor::from_parts(9, 0, 0);
+    //     let got = far.read_u8(Order::Big, b"\x5a");
+    //     expect(b"Cursor::from_parts", got.refusal == 2);
+    pub fn from_parts(offset: usize, lookahead: u32, register: u64) -> Cursor
+        ensures { λ r. ⌜ r ≡ record { offset = offset; lookahead = lookahead; register = register } ⌝ }
+    {
+        Cursor {
+            offset: offset,
+            lookahead: lookahead,
+            register: register,
+        }
+    }
+
     // One bit, as a bool.
+    //     let got = start.read_bit(Order::Big, b"\x80");
+    //     expect(b"read_bit", got.value);
     pub fn read_bit(self, order: Order, src: &[u8]) -> ReadBool
         ensures { λ r. ⌜ r ≡ asBool (readOf order (now (src .entry)) self 1) ⌝ }
     {
@@ -162,6 +181,8 @@ impl Cursor {
     }
 
     // Eight bits.
+    //     let got = start.read_u8(Order::Big, b"\x5a");
+    //     expect(b"read_u8", got.value == 0x5a);
     pub fn read_u8(self, order: Order, src: &[u8]) -> ReadU8
         ensures { λ r. ⌜ r ≡ asU8 (readOf order (now (src .entry)) self 8) ⌝ }
     {
@@ -175,6 +196,8 @@ impl Cursor {
     }
 
     // Eight bits as a signed number.
+    //     let got = start.read_i8(Order::Big, b"\xda");
+    //     expect(b"read_i8", got.value == -38);
     pub fn read_i8(self, order: Order, src: &[u8]) -> ReadI8
         ensures { λ r. ⌜ r ≡ asI8 (readOf order (now (src .entry)) self 8) ⌝ }
     {
@@ -189,6 +212,8 @@ impl Cursor {
     }
 
     // Sixteen bits.
+    //     let got = start.read_u16(Order::Little, b"\x01\x02");
+    //     expect(b"read_u16", got.value == 0x0201);
     pub fn read_u16(self, order: Order, src: &[u8]) -> ReadU16
         ensures { λ r. ⌜ r ≡ asU16 (readOf order (now (src .entry)) self 16) ⌝ }
     {
@@ -202,6 +227,8 @@ impl Cursor {
     }
 
     // Sixteen bits as a signed number.
+    //     let got = start.read_i16(Order::Little, b"\xfe\xff");
+    //     expect(b"read_i16", got.value == -2);
     pub fn read_i16(self, order: Order, src: &[u8]) -> ReadI16
         ensures { λ r. ⌜ r ≡ asI16 (readOf order (now (src .entry)) self 16) ⌝ }
     {
@@ -216,6 +243,8 @@ impl Cursor {
     }
 
     // 32 bits.
+    //     let got = start.read_u32(Order::Big, b"\x00\x01\x02\x03");
+    //     expect(b"read_u32", got.value == 0x0001_0203);
     pub fn read_u32(self, order: Order, src: &[u8]) -> ReadU32
         ensures { λ r. ⌜ r ≡ asU32 (readOf order (now (src .entry)) self 32) ⌝ }
     {
@@ -229,6 +258,8 @@ impl Cursor {
     }
 
     // 32 bits as a signed number.
+    //     let got = start.read_i32(Order::Big, b"\xff\xff\xff\xfe");
+    //     expect(b"read_i32", got.value == -2);
     pub fn read_i32(self, order: Order, src: &[u8]) -> ReadI32
         ensures { λ r. ⌜ r ≡ asI32 (readOf order (now (src .entry)) self 32) ⌝ }
     {
@@ -243,6 +274,10 @@ impl Cursor {
     }
 
     // 32 bits as a single, every pattern kept.
+    //     let got = start.read_f32(Order::Big, b"\x3f\x80\x00\x00");
+    //     let one = got.value;
+    //     let bits = floats::bits_of_single(one);
+    //     expect(b"read_f32", bits == 0x3f80_0000);
     pub fn read_f32(self, order: Order, src: &[u8]) -> ReadF32
         ensures { λ r. ⌜ r ≡ asF32 (readOf order (now (src .entry)) self 32) ⌝ }
     {
@@ -257,6 +292,8 @@ impl Cursor {
     }
 
     // 64 bits.
+    //     let got = start.read_u64(Order::Big, b"\x00\x01\x02\x03\x04\x05\x06\x07");
+    //     expect(b"read_u64", got.value == 0x0001_0203_0405_0607);
     pub fn read_u64(self, order: Order, src: &[u8]) -> ReadU64
         ensures { λ r. ⌜ r ≡ readOf order (now (src .entry)) self 64 ⌝ }
     {
@@ -264,6 +301,8 @@ impl Cursor {
     }
 
     // 64 bits as a signed number.
+    //     let got = start.read_i64(Order::Little, b"\xfe\xff\xff\xff\xff\xff\xff\xff");
+    //     expect(b"read_i64", got.value == -2);
     pub fn read_i64(self, order: Order, src: &[u8]) -> ReadI64
         ensures { λ r. ⌜ r ≡ asSigned 64 (readOf order (now (src .entry)) self 64) ⌝ }
     {
@@ -271,6 +310,10 @@ impl Cursor {
     }
 
     // 64 bits as a double, every pattern kept.
+    //     let got = start.read_f64(Order::Big, b"\x3f\xf0\x00\x00\x00\x00\x00\x00");
+    //     let one = got.value;
+    //     let bits = floats::bits_of_double(one);
+    //     expect(b"read_f64", bits == 0x3ff0_0000_0000_0000);
     pub fn read_f64(self, order: Order, src: &[u8]) -> ReadF64
         ensures { λ r. ⌜ r ≡ asF64 (readOf order (now (src .entry)) self 64) ⌝ }
     {
@@ -285,22 +328,24 @@ impl Cursor {
     }
 
     // A field of 0 to 64 bits. Refusals 1, 2, 3 and 9.
+    //     let got = start.read_bits(Order::Big, b"\xa5", 3);
+    //     expect(b"read_bits", got.value == 5);
     pub fn read_bits(self, order: Order, src: &[u8], bits: u32) -> ReadU64
         ensures { λ r. ⌜ r ≡ readOf order (now (src .entry)) self bits ⌝ }
     {
         let lent = &src[..src.len()];
         if inner::is_inside(order, lent, self, bits) {
-            return inner::done_with(lookahead::inner::read_inside(
-                order,
-                lent,
-                inner::state_in(self),
-                bits,
-            ));
+            return inner::done_with(
+                self,
+                lookahead::inner::read_inside(order, lent, inner::state_in(self), bits),
+            );
         }
         inner::read_out(order, lent, self, bits)
     }
 
     // A field of 0 to 64 bits as a signed number. Refusals 1, 2, 3 and 9.
+    //     let got = start.read_signed_bits(Order::Big, b"\x8f", 4);
+    //     expect(b"read_signed_bits", got.value == -8);
     pub fn read_signed_bits(self, order: Order, src: &[u8], bits: u32) -> ReadI64
         ensures { λ r. ⌜ r ≡ asSigned bits (readOf order (now (src .entry)) self bits) ⌝ }
     {
@@ -321,10 +366,12 @@ impl Cursor {
     }
 
     // The whole bytes left: the partial one is not counted.
+    //     let left = start.bytes_remaining(Order::Big, b"\x5a\xff");
+    //     expect(b"bytes_remaining", left.value == 2);
     pub fn bytes_remaining(self, order: Order, src: &[u8]) -> Counted
         ensures { λ r. ⌜ r ≡ countedOf order (now (src .entry)) self (bytesLeft (now (src .entry)) self) ⌝ }
     {
-        let refusal = lookahead::inner::refusal(order, src, inner::state_in(self));
+        let refusal = inner::refusal(order, src, self);
         if refusal != refusals::DONE {
             return Counted {
                 refusal: refusal,
@@ -333,15 +380,17 @@ impl Cursor {
         }
         Counted {
             refusal: refusals::DONE,
-            value: counts::inner::bytes_left(src.len(), inner::counts_in(self)),
+            value: inner::bytes_left(src, self),
         }
     }
 
     // The bytes not yet fetched.
+    //     let left = start.unbuffered_bytes_remaining(Order::Big, b"\x5a\xff");
+    //     expect(b"unbuffered_bytes_remaining", left.value == 2);
     pub fn unbuffered_bytes_remaining(self, order: Order, src: &[u8]) -> Counted
-        ensures { λ r. ⌜ r ≡ countedOf order (now (src .entry)) self (unfetched (length (now (src .entry))) (countsIn self)) ⌝ }
+        ensures { λ r. ⌜ r ≡ countedOf order (now (src .entry)) self (unfetched (now (src .entry)) self) ⌝ }
     {
-        let refusal = lookahead::inner::refusal(order, src, inner::state_in(self));
+        let refusal = inner::refusal(order, src, self);
         if refusal != refusals::DONE {
             return Counted {
                 refusal: refusal,
@@ -355,10 +404,12 @@ impl Cursor {
     }
 
     // The bits left.
+    //     let left = start.bits_remaining(Order::Big, b"\x5a\xff");
+    //     expect(b"bits_remaining", left.value == 16);
     pub fn bits_remaining(self, order: Order, src: &[u8]) -> Counted
         ensures { λ r. ⌜ r ≡ countedOf order (now (src .entry)) self (bitsLeft (now (src .entry)) self) ⌝ }
     {
-        let refusal = lookahead::inner::refusal(order, src, inner::state_in(self));
+        let refusal = inner::refusal(order, src, self);
         if refusal != refusals::DONE {
             return Counted {
                 refusal: refusal,
@@ -372,10 +423,12 @@ impl Cursor {
     }
 
     // Whether as many bits are left; any number may be asked.
+    //     let more = start.has_bits_remaining(Order::Big, b"\x5a\xff", 16);
+    //     expect(b"has_bits_remaining", more.value);
     pub fn has_bits_remaining(self, order: Order, src: &[u8], bits: usize) -> Tested
         ensures { λ r. ⌜ r ≡ testedOf order (now (src .entry)) self (leb bits (bitsLeft (now (src .entry)) self)) ⌝ }
     {
-        let refusal = lookahead::inner::refusal(order, src, inner::state_in(self));
+        let refusal = inner::refusal(order, src, self);
         if refusal != refusals::DONE {
             return Tested {
                 refusal: refusal,
@@ -389,12 +442,14 @@ impl Cursor {
     }
 
     // Fills the buffer with fields of eight bits. Refusals 1 (also for the buffer), 2 and 9; the buffer is untouched then.
+    //     let got = start.read_bytes(Order::Big, b"\x01\x02\x03", &mut two);
+    //     expect(b"read_bytes", two[1] == 2);
+    //     expect(b"read_bytes", got.refusal == 0);
     pub fn read_bytes(self, order: Order, src: &[u8], buf: &mut [u8]) -> Moved
         ensures answer { λ r. ⌜ r ≡ bytesOf order (now (src .entry)) self (length (now (buf .entry))) ⌝ }
         ensures memory { λ _. ⌜ now (buf .exit) ≡ bytesOut order (now (src .entry)) self (now (buf .entry)) ⌝ }
     {
-        let state = inner::state_in(self);
-        let refusal = inner::bytes_refusal(order, src, state, buf.len());
+        let refusal = inner::bytes_refusal(order, src, self, buf.len());
         if refusal != refusals::DONE {
             return Moved {
                 refusal: refusal,
@@ -403,16 +458,17 @@ impl Cursor {
         }
         Moved {
             refusal: refusals::DONE,
-            cursor: inner::cursor_with(inner::read_bytes(order, src, state, buf)),
+            cursor: inner::read_bytes(order, src, self, buf),
         }
     }
 
     // The first bits of the lookahead, which stay. Refusals 1, 2 and 10.
+    //     let seen = full.peek(Order::Big, b"\xa5\x01", 4);
+    //     expect(b"peek", seen.value == 10);
     pub fn peek(self, order: Order, src: &[u8], count: u32) -> Peeked
         ensures { λ r. ⌜ r ≡ peekOf order (now (src .entry)) self count ⌝ }
     {
-        let state = inner::state_in(self);
-        let refusal = inner::manual_refusal(order, src, state, count);
+        let refusal = inner::manual_refusal(order, src, self, count);
         if refusal != refusals::DONE {
             return Peeked {
                 refusal: refusal,
@@ -421,16 +477,17 @@ impl Cursor {
         }
         Peeked {
             refusal: refusals::DONE,
-            value: lookahead::inner::peek(order, src, state, count),
+            value: lookahead::inner::peek(order, src, inner::state_in(self), count),
         }
     }
 
     // The cursor without the first bits of its lookahead. Refusals 1, 2 and 10.
+    //     let moved = full.consume(Order::Big, b"\xa5\x01", 4);
+    //     expect(b"consume", moved.refusal == 0);
     pub fn consume(self, order: Order, src: &[u8], count: u32) -> Moved
         ensures { λ r. ⌜ r ≡ consumeOf order (now (src .entry)) self count ⌝ }
     {
-        let state = inner::state_in(self);
-        let refusal = inner::manual_refusal(order, src, state, count);
+        let refusal = inner::manual_refusal(order, src, self, count);
         if refusal != refusals::DONE {
             return Moved {
                 refusal: refusal,
@@ -439,15 +496,20 @@ impl Cursor {
         }
         Moved {
             refusal: refusals::DONE,
-            cursor: inner::cursor_with(lookahead::inner::consume(order, src, state, count)),
+            cursor: inner::with_state(
+                self,
+                lookahead::inner::consume(order, src, inner::state_in(self), count),
+            ),
         }
     }
 
     // The bits of lookahead.
+    //     let ahead = full.lookahead_bits(Order::Big, b"\xa5\x01");
+    //     expect(b"lookahead_bits", ahead.value == 16);
     pub fn lookahead_bits(self, order: Order, src: &[u8]) -> Ahead
         ensures { λ r. ⌜ r ≡ aheadOf order (now (src .entry)) self ⌝ }
     {
-        let refusal = lookahead::inner::refusal(order, src, inner::state_in(self));
+        let refusal = inner::refusal(order, src, self);
         if refusal != refusals::DONE {
             return Ahead {
                 refusal: refusal,
@@ -456,16 +518,17 @@ impl Cursor {
         }
         Ahead {
             refusal: refusals::DONE,
-            value: self.lookahead,
+            value: inner::ahead(src, self),
         }
     }
 
     // The cursor with as many more whole bytes in its lookahead as the slice and 63 bits allow.
+    //     let moved = start.refill_lookahead(Order::Big, b"\xa5\x01");
+    //     expect(b"refill_lookahead", moved.refusal == 0);
     pub fn refill_lookahead(self, order: Order, src: &[u8]) -> Moved
         ensures { λ r. ⌜ r ≡ refillOf order (now (src .entry)) self ⌝ }
     {
-        let state = inner::state_in(self);
-        let refusal = lookahead::inner::refusal(order, src, state);
+        let refusal = inner::refusal(order, src, self);
         if refusal != refusals::DONE {
             return Moved {
                 refusal: refusal,
@@ -474,15 +537,20 @@ impl Cursor {
         }
         Moved {
             refusal: refusals::DONE,
-            cursor: inner::cursor_with(lookahead::inner::refill(order, src, state)),
+            cursor: inner::with_state(
+                self,
+                lookahead::inner::refill(order, src, inner::state_in(self)),
+            ),
         }
     }
 
     // Whether no bit is left.
+    //     let none = start.is_empty(Order::Big, b"");
+    //     expect(b"is_empty", none.value);
     pub fn is_empty(self, order: Order, src: &[u8]) -> Tested
         ensures { λ r. ⌜ r ≡ testedOf order (now (src .entry)) self (eqb (bitsLeft (now (src .entry)) self) 0) ⌝ }
     {
-        let refusal = lookahead::inner::refusal(order, src, inner::state_in(self));
+        let refusal = inner::refusal(order, src, self);
         if refusal != refusals::DONE {
             return Tested {
                 refusal: refusal,
@@ -496,10 +564,12 @@ impl Cursor {
     }
 
     // Whether reading goes on at the start of a byte.
+    //     let whole = start.byte_aligned(Order::Big, b"\x5a\xff");
+    //     expect(b"byte_aligned", whole.value);
     pub fn byte_aligned(self, order: Order, src: &[u8]) -> Tested
         ensures { λ r. ⌜ r ≡ testedOf order (now (src .entry)) self (eqb (place self % 8) 0) ⌝ }
     {
-        let refusal = lookahead::inner::refusal(order, src, inner::state_in(self));
+        let refusal = inner::refusal(order, src, self);
         if refusal != refusals::DONE {
             return Tested {
                 refusal: refusal,
@@ -513,10 +583,12 @@ impl Cursor {
     }
 
     // The part of the slice from the first whole unread byte on; empty on refusal 1 or 2, which `partial` tells.
+    //     let rest = behind.remainder(Order::Big, b"\x5a\xff");
+    //     expect(b"remainder", rest.len() == 1);
     pub fn remainder(self, order: Order, src: &[u8]) -> &[u8]
         ensures { λ r. ⌜ now r ≡ remainderOf order (now (src .entry)) self ⌝ }
     {
-        let refusal = lookahead::inner::refusal(order, src, inner::state_in(self));
+        let refusal = inner::refusal(order, src, self);
         if refusal != refusals::DONE {
             return &src[..0];
         }
@@ -525,11 +597,12 @@ impl Cursor {
     }
 
     // The bits before the remainder: fewer than eight, and their value.
+    //     let before = behind.partial(Order::Big, b"\x5a\xff");
+    //     expect(b"partial", before.partial_byte == 0x1a);
     pub fn partial(self, order: Order, src: &[u8]) -> Partial
         ensures { λ r. ⌜ r ≡ partialOf order (now (src .entry)) self ⌝ }
     {
-        let state = inner::state_in(self);
-        let refusal = lookahead::inner::refusal(order, src, state);
+        let refusal = inner::refusal(order, src, self);
         if refusal != refusals::DONE {
             return Partial {
                 refusal: refusal,
@@ -541,7 +614,7 @@ impl Cursor {
         Partial {
             refusal: refusals::DONE,
             partial_bits: bits as u8,
-            partial_byte: lookahead::inner::peek(order, src, state, bits) as u8,
+            partial_byte: lookahead::inner::peek(order, src, inner::state_in(self), bits) as u8,
         }
     }
 }

@@ -13,6 +13,8 @@ pub struct Remainder<'a> {
 }
 
 // The remainder of a cursor's slice.
+//     let rest = lent::left(behind, Order::Big, b"\x5a\xff");
+//     expect(b"remainder_record", rest.partial_bits == 5);
 pub fn remainder_record<'a>(cursor: Cursor, order: Order, src: &'a [u8]) -> Remainder<'a>
     ensures { λ r. ⌜ (r .«partial_byte» ≡ (partialOf order (now (src .entry)) cursor) .«partial_byte»)
         × (r .«partial_bits» ≡ (partialOf order (now (src .entry)) cursor) .«partial_bits»)
@@ -29,6 +31,7 @@ pub fn remainder_record<'a>(cursor: Cursor, order: Order, src: &'a [u8]) -> Rema
 
 impl<'a> Remainder<'a> {
     // The bits before the first whole byte, as a number.
+    //     expect(b"Remainder::partial_byte", rest.partial_byte == 0x1a);
     pub fn partial_byte(self) -> u8
         ensures { λ r. ⌜ r ≡ self .entry .«partial_byte» ⌝ }
     {
@@ -36,6 +39,7 @@ impl<'a> Remainder<'a> {
     }
 
     // How many bits stand before the first whole byte.
+    //     expect(b"Remainder::partial_bits", rest.partial_bits == 5);
     pub fn partial_bits(self) -> u8
         ensures { λ r. ⌜ r ≡ self .entry .«partial_bits» ⌝ }
     {
@@ -43,6 +47,7 @@ impl<'a> Remainder<'a> {
     }
 
     // The slice from the first whole byte on.
+    //     expect(b"Remainder::data", rest.length == 1);
     pub fn data(self) -> &'a [u8]
         ensures { λ r. ⌜ r ≡ self .entry .«remaining_bytes» ⌝ }
     {

@@ -1,11 +1,1 @@
-pub mod RoundTrip
 pub mod Mixed
-pub mod ItemLaws
-pub mod WayOut
-pub mod WayBack
-pub mod MixedTrip
-pub mod ThereAndBack
-pub mod Trip
-pub mod Parts
-pub mod TripLaws
-pub mod AlongLaws

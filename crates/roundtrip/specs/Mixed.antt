@@ -8,7 +8,7 @@ use lib.IntN.{ℤ, pos}
 use lib.ListN.{length, take, getD}
 use lib.Signed.{mag}
 use Rattle.bits.specs.declared.Order.{Order}
-use Rattle.bits.specs.Refusals.{limit, done}
+use Rattle.bits.specs.Refusals.{longest, done}
 use Rattle.bits.specs.Field.{field}
 use Rattle.reader.specs.declared.Cursor.{Cursor}
 use Rattle.reader.specs.Cursor.{place, bitsLeft}
@@ -16,7 +16,6 @@ use Rattle.reader.specs.Answers as R
 use Rattle.writer.specs.declared.Writer.{Writer}
 use Rattle.writer.specs.declared.Wrote.{Wrote}
 use Rattle.writer.specs.Answers as W
-use Rattle.roundtrip.specs.RoundTrip.{Written, flushed}
 
 -- a thing to write; with bytes goes the buffer that they are read back into, whatever it holds
 pub data Item : Type 0 where
@@ -56,6 +55,12 @@ size n (e ∷ es) = bits n e + size (n + bits n e) es
 
 -- ---- the way out
 
+-- what writing leaves: a refusal number for each item, the writer and the output
+pub record Written : Type 0 where
+  pub refusals : List ℕ
+  pub writer : Writer
+  pub out : List ℕ
+
 -- what the writer's call for an item answers
 unfoldable pub itemOf : Order → ℕ → Writer → Item → Wrote
 itemOf o len w (unsigned n v) = W.writeOf o len w n v
@@ -77,6 +82,12 @@ writeAll o s w (e ∷ es) =
     let one = itemOf o (length s) w e in
     let others = writeAll o (itemOut o s w e) (one .writer) es in
     record { refusals = one .refusal ∷ others .refusals; writer = others .writer; out = others .out }
+
+-- and a flush, whose refusal number comes first
+unfoldable pub flushed : Order → Written → Written
+flushed o q =
+    let last = W.flushOf o (length (q .out)) (q .writer) in
+    record { refusals = last .refusal ∷ q .refusals; writer = last .writer; out = W.flushOut o (q .out) (q .writer) }
 
 -- by a fresh writer, into an output s, and flushed
 abbrev pub sent : Order → List ℕ → List Item → Written
@@ -171,4 +182,4 @@ pub record Returned (o : Order) (s : List ℕ) (es : List Item) : Type 0 where
 
 -- items that fit, and have room in an output within the limit, return
 abbrev pub MixedRoundTrip : Type 0
-MixedRoundTrip = (o : Order) (s : List ℕ) (es : List Item) → length s ≤ limit → Fit es → size 0 es ≤ 8 * length s → Returned o s es
+MixedRoundTrip = (o : Order) (s : List ℕ) (es : List Item) → length s ≤ longest → Fit es → size 0 es ≤ 8 * length s → Returned o s es

@@ -1,19 +1,16 @@
 -- What sign_extend answers.
 use Prim.Native.Nat.{ℕ, _^_}
-use mathlib.Core.Bool.{cond}
+use mathlib.Core.List.{[], _∷_}
 use lib.Dec.{leb, ltb}
 use lib.IntN.{pos}
-use Rattle.bits.specs.Refusals.{done, tooWide, tooLarge}
+use Rattle.bits.specs.Refusals.{tooWide, tooLarge, _⟶_, firstRefusal, ifDone}
 use Rattle.bits.specs.Signed.{signed}
 use Rattle.sign.specs.declared.Extended.{Extended}
 
--- a refusal, with the value 0
-abbrev pub refused : ℕ → Extended
-refused n = record { refusal = n; value = pos 0 }
+-- 3 for a width above 64, 4 for a value at or above 2 to its width
+unfoldable pub extendRefusal : ℕ → ℕ → ℕ
+extendRefusal v w = firstRefusal (ltb 64 w ⟶ tooWide ∷ leb (2 ^ w) v ⟶ tooLarge ∷ [])
 
--- 3 where the width is above 64, 4 where the value is at or above 2 ^ w, else the signed meaning
+-- the signed meaning, or 0 with a refusal
 unfoldable pub extendOf : ℕ → ℕ → Extended
-extendOf v w =
-    cond (ltb 64 w) (refused tooWide)
-    (cond (leb (2 ^ w) v) (refused tooLarge)
-    (record { refusal = done; value = signed w v }))
+extendOf v w = record { refusal = extendRefusal v w; value = ifDone (extendRefusal v w) (signed w v) (pos 0) }

@@ -1,3 +1,1 @@
 pub mod Extend
-pub mod SignedLaws
-pub mod FlipLaws

@@ -15,16 +15,25 @@ pub fn fits(val: u64, bits: u32) -> bool
     val < 1 << bits
 }
 
-// The signed number that `bits` bits stand for: the top bit is flipped and its worth taken off, modulo 2^64.
-pub fn extend(val: u64, bits: u32) -> i64
+// The 64 bits in two's complement of the signed number that `bits` bits stand for: the top bit is flipped and its worth taken off, modulo
+// 2^64.
+pub fn widened(val: u64, bits: u32) -> u64
     requires { ⌜ (bits ≤ 64) × (val < 2 ^ bits) ⌝ }
-    ensures { λ r. ⌜ r ≡ signed bits val ⌝ }
+    ensures { λ r. ⌜ r ≡ pattern 64 (signed bits val) ⌝ }
 {
     if bits == 0 {
         return 0;
     }
     let m = 1u64 << (bits - 1);
-    signed_of_bits(std::num::wrapping_sub_u64(val ^ m, m))
+    std::num::wrapping_sub_u64(val ^ m, m)
+}
+
+// The signed number that `bits` bits stand for.
+pub fn extend(val: u64, bits: u32) -> i64
+    requires { ⌜ (bits ≤ 64) × (val < 2 ^ bits) ⌝ }
+    ensures { λ r. ⌜ r ≡ signed bits val ⌝ }
+{
+    signed_of_bits(widened(val, bits))
 }
 
 // The signed number that 64 bits stand for in two's complement.

@@ -12,6 +12,8 @@ pub struct Extended {
 }
 
 // The signed number that the low `bits` bits `val` stand for, or refusal 3 (over 64 bits) or 4 (`val` does not fit them).
+//     let eight = sign::sign_extend(8, 4);
+//     expect(b"sign_extend", eight.value == -8);
 pub fn sign_extend(val: u64, bits: u32) -> Extended
     ensures { λ r. ⌜ r ≡ extendOf val bits ⌝ }
 {

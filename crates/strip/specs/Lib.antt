@@ -1,11 +1,3 @@
 pub mod Bits
 pub mod Strip
 pub mod Answers
-pub mod BitsLaws
-pub mod FitLaws
-pub mod ListLaws
-pub mod AnswerLaws
-pub mod MidwayLaws
-pub mod PackedLaws
-pub mod StripLaws
-pub mod Theorems

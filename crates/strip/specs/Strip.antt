@@ -1,17 +1,16 @@
 -- Strips: records one behind the other and zeros up to a byte; and lists of numbers, six a record.
-use Prim.Native.Nat.{ℕ, zero, suc, _+_, _*_, _/_, _%_, _^_}
+use Prim.Native.Nat.{ℕ, zero, suc, _+_, _*_, _/_, _%_}
 use mathlib.Core.Bool.{Bool, true, cond, _&&_}
 use mathlib.Core.List.{List, [], _∷_, _++_}
 use lib.ListN.{length, getD, drop}
 use lib.Dec.{eqb, ltb}
-use lib.Signed.{mag}
 use Rattle.bits.specs.declared.Order.the-variants.{Big}
 use Rattle.bits.specs.Field.{field}
-use Rattle.bits.specs.Signed.{signed, pattern}
+use Rattle.bits.specs.Signed.{pattern}
 use Rattle.packing.specs.declared.State.{State}
 use Rattle.packing.specs.Packing.{put, putOut}
 use Rattle.record.specs.declared.Record.{Record}
-use Rattle.record.specs.Record.{fits, recordBits}
+use Rattle.record.specs.Record.{fits, recordOf, recordBits}
 use Rattle.strip.specs.Bits.{bitsOf, recordAt}
 
 -- ---- lists of numbers
@@ -25,26 +24,18 @@ allNumbers [] = []
 allNumbers (r ∷ rs) = numbersOf r ++ allNumbers rs
 
 -- the record that the first six numbers name
-abbrev pub recordOf : List ℕ → Record
-recordOf ns =
-    record {
-      star = getD ns 0 0;
-      date = getD ns 1 0;
-      limit = getD ns 2 0;
-      magnitude = signed 64 (getD ns 3 0);
-      error = getD ns 4 0;
-      filter = getD ns 5 0;
-    }
+abbrev pub recordIn : List ℕ → Record
+recordIn ns = recordOf (getD ns 0 0) (getD ns 1 0) (getD ns 2 0) (getD ns 3 0) (getD ns 4 0) (getD ns 5 0)
 
 -- the records that numbers name, n of them or as many as there are whole ones
 unfoldable pub recordsIn : ℕ → List ℕ → List Record
 recordsIn zero ns = []
-recordsIn (suc n) ns = cond (ltb (length ns) 6) [] (recordOf ns ∷ recordsIn n (drop 6 ns))
+recordsIn (suc n) ns = cond (ltb (length ns) 6) [] (recordIn ns ∷ recordsIn n (drop 6 ns))
 
--- whether every record's numbers fit their fields, the magnitude its 16 bits
+-- whether every record's numbers fit their fields
 unfoldable pub allFit : List Record → Bool
 allFit [] = true
-allFit (r ∷ rs) = (fits r && ltb (mag (r .magnitude)) (2 ^ 15)) && allFit rs
+allFit (r ∷ rs) = fits r && allFit rs
 
 -- ---- packing
 

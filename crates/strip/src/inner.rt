@@ -3,6 +3,7 @@ use bits::Order;
 use bits::refusals;
 use packing::State;
 use reader::Cursor;
+use record::RECORD_BITS;
 use record::Record;
 use writer::Writer;
 ghost use mathlib.Core.Path.{_≡_};
@@ -11,14 +12,16 @@ ghost use mathlib.Core.List.{[], _∷_};
 ghost use Prim.Native.Nat.{_+_, _*_, _/_, _%_, _^_, _<_, _≤_};
 ghost use lib.ListN.{length};
 ghost use lib.Seq.{sets};
-ghost use lib.Dec.{ltb};
-ghost use Rattle.bits.specs.Refusals.{limit};
+ghost use Rattle.bits.specs.Refusals.{longest};
 ghost use Rattle.bits.specs.Signed.{signed, pattern};
 ghost use Rattle.packing.specs.Packing.{Belongs, bitsWritten, put, putOut};
 ghost use Rattle.record.specs.Record.{fits, recordBits};
 ghost use Rattle.strip.specs.Bits.{bitsOf, recordAt};
 ghost use Rattle.strip.specs.Strip.{numbersOf, recordsIn, allFit, allNumbers, stripLength, recordsFrom, tailGood as tailGood·of};
 ghost use Rattle.strip.specs.Answers.{packRefusal, readRefusal, stripRefusal, stripOut, listRefusal};
+
+// The bits of a record's last four fields.
+const LAST_FOUR: u32 = 31;
 
 // ---- one record
 
@@ -31,7 +34,7 @@ pub fn pack_refusal(len: usize, w: Writer, found: Record) -> u32
         return refusal;
     }
     if record::inner::fits(found) {
-        return writer::inner::room_refusal(len, w, 89);
+        return writer::inner::room_refusal(len, w, RECORD_BITS);
     }
     refusals::TOO_LARGE
 }
@@ -57,15 +60,15 @@ fn put_six(
         + magnitude * 0x4000
         + error * 16
         + filter;
-    let middle = packing::inner::put_short(Order::Big, out, c, 56, high);
-    packing::inner::put_short(Order::Big, out, middle, 33, low)
+    let middle = packing::inner::put_bits(Order::Big, out, c, 56, high);
+    packing::inner::put_bits(Order::Big, out, middle, 33, low)
 }
 
 // The 16 bits of a magnitude.
 fn magnitude_bits(magnitude: i16) -> u64
     ensures { λ r. ⌜ r ≡ pattern 16 magnitude ⌝ }
 {
-    sign::inner::bits_of_signed(magnitude as i64) % 0x1_0000
+    record::inner::magnitude_number(magnitude) % 0x1_0000
 }
 
 // A record behind what was written.
@@ -90,11 +93,11 @@ pub fn put_record(out: &mut [u8], c: State, found: Record) -> State
 pub fn read_refusal(src: &[u8], c: Cursor) -> u32
     ensures { λ r. ⌜ r ≡ readRefusal (now (src .entry)) c ⌝ }
 {
-    let refusal = lookahead::inner::refusal(Order::Big, src, reader::inner::state_in(c));
+    let refusal = reader::inner::refusal(Order::Big, src, c);
     if refusal != refusals::DONE {
         return refusal;
     }
-    if reader::inner::bits_left(src, c) < 89 {
+    if reader::inner::bits_left(src, c) < RECORD_BITS {
         return refusals::TOO_FEW;
     }
     refusals::DONE
@@ -102,12 +105,12 @@ pub fn read_refusal(src: &[u8], c: Cursor) -> u32
 
 // The record at a place: by windows of 64 bits, the last four fields out of one.
 pub fn record_at(src: &[u8], place: usize) -> Record
-    requires { ⌜ (place + recordBits ≤ 8 * length (now src)) × (length (now src) ≤ limit) ⌝ }
+    requires { ⌜ (place + recordBits ≤ 8 * length (now src)) × (length (now src) ≤ longest) ⌝ }
     ensures { λ r. ⌜ r ≡ recordAt (now (src .entry)) place ⌝ }
 {
     let star = words::inner::short_field(Order::Big, src, place, 20);
     let date = words::inner::short_field(Order::Big, src, place + 20, 38);
-    let rest = words::inner::short_field(Order::Big, src, place + 58, 31);
+    let rest = words::inner::short_field(Order::Big, src, place + 58, LAST_FOUR);
     Record {
         star: star as u32,
         date: date,
@@ -120,27 +123,6 @@ pub fn record_at(src: &[u8], place: usize) -> Record
 
 // ---- whole strips
 
-// Whether six numbers fit their fields, the magnitude's two's complement its 16 bits.
-fn six_fit(star: u64, date: u64, limit: u64, magnitude: u64, error: u64, filter: u64) -> bool
-    ensures { λ r. ⌜ r ≡ allFit (recordsIn 1 (star ∷ date ∷ limit ∷ magnitude ∷ error ∷ filter ∷ [])) ⌝ }
-{
-    if star < 0x10_0000 {
-        if date < 0x40_0000_0000 {
-            if limit < 2 {
-                if error < 0x400 {
-                    if filter < 16 {
-                        if magnitude < 0x8000 {
-                            return true;
-                        }
-                        return 0xffff_ffff_ffff_8000 <= magnitude;
-                    }
-                }
-            }
-        }
-    }
-    false
-}
-
 // Whether the first n records of a list fit.
 fn all_fit(numbers: &[u64], n: usize) -> bool
     requires { ⌜ 6 * n ≤ length (now numbers) ⌝ }
@@ -149,7 +131,7 @@ fn all_fit(numbers: &[u64], n: usize) -> bool
     let mut i = 0;
     let mut at = 0;
     while i < n {
-        if six_fit(
+        if record::inner::six_fit(
             numbers[at],
             numbers[at + 1],
             numbers[at + 2],
@@ -170,7 +152,7 @@ fn all_fit(numbers: &[u64], n: usize) -> bool
 pub fn strip_refusal(numbers: &[u64], n: usize, len: usize) -> u32
     ensures { λ r. ⌜ r ≡ stripRefusal (now (numbers .entry)) n len ⌝ }
 {
-    if refusals::LIMIT < len {
+    if refusals::LONGEST < len {
         return refusals::TOO_LONG;
     }
     let mut there = numbers.len() / 6;
@@ -181,7 +163,7 @@ pub fn strip_refusal(numbers: &[u64], n: usize, len: usize) -> u32
         if there < n {
             return refusals::NO_ROOM;
         }
-        if 8 * len / 89 < n {
+        if 8 * len / RECORD_BITS < n {
             return refusals::NO_ROOM;
         }
         return refusals::DONE;
@@ -191,7 +173,7 @@ pub fn strip_refusal(numbers: &[u64], n: usize, len: usize) -> u32
 
 // Packs n records and flushes; the answer is the strip's length.
 pub fn put_strip(numbers: &[u64], n: usize, out: &mut [u8]) -> usize
-    requires { ⌜ (6 * n ≤ length (now numbers)) × (stripLength n ≤ length (now out)) × (length (now out) ≤ limit) × (allFit (recordsIn n (now numbers)) ≡ true) ⌝ }
+    requires { ⌜ (6 * n ≤ length (now numbers)) × (stripLength n ≤ length (now out)) × (length (now out) ≤ longest) × (allFit (recordsIn n (now numbers)) ≡ true) ⌝ }
     ensures answer { λ r. ⌜ r ≡ stripLength n ⌝ }
     ensures memory { λ _. ⌜ now (out .exit) ≡ stripOut (recordsIn n (now (numbers .entry))) (now (out .entry)) ⌝ }
 {
@@ -224,24 +206,13 @@ pub fn put_strip(numbers: &[u64], n: usize, out: &mut [u8]) -> usize
 pub fn list_refusal(src: &[u8], room: usize) -> u32
     ensures { λ r. ⌜ r ≡ listRefusal (now (src .entry)) room ⌝ }
 {
-    if refusals::LIMIT < src.len() {
+    if refusals::LONGEST < src.len() {
         return refusals::TOO_LONG;
     }
-    if room < 6 * (8 * src.len() / 89) {
+    if room < 6 * (8 * src.len() / RECORD_BITS) {
         return refusals::NO_ROOM;
     }
     refusals::DONE
-}
-
-// A magnitude's 64 bits in two's complement, of its 16.
-fn widened(magnitude: u64) -> u64
-    requires { ⌜ magnitude < 2 ^ 16 ⌝ }
-    ensures { λ r. ⌜ r ≡ pattern 64 (signed 16 magnitude) ⌝ }
-{
-    if magnitude < 0x8000 {
-        return magnitude;
-    }
-    magnitude + 0xffff_ffff_ffff_0000
 }
 
 // Stores a record's six numbers, the last four out of one of 31 bits.
@@ -252,32 +223,32 @@ fn put_parts(numbers: &mut [u64], at: usize, star: u64, date: u64, rest: u64)
     numbers[at] = star;
     numbers[at + 1] = date;
     numbers[at + 2] = rest / 0x4000_0000;
-    numbers[at + 3] = widened(rest / 0x4000 % 0x1_0000);
+    numbers[at + 3] = sign::inner::widened(rest / 0x4000 % 0x1_0000, 16);
     numbers[at + 4] = rest / 16 % 0x400;
     numbers[at + 5] = rest % 16;
 }
 
 // Stores the six numbers of the record at a place: if 64 bits are there from its last 31 on, no load tests for the end.
 fn put_numbers_at(src: &[u8], place: usize, numbers: &mut [u64], at: usize)
-    requires { ⌜ (place + recordBits ≤ 8 * length (now src)) × (length (now src) ≤ limit) × (at + 6 ≤ length (now numbers)) ⌝ }
+    requires { ⌜ (place + recordBits ≤ 8 * length (now src)) × (length (now src) ≤ longest) × (at + 6 ≤ length (now numbers)) ⌝ }
     ensures { λ _. ⌜ now (numbers .exit) ≡ sets (now (numbers .entry)) at (numbersOf (recordAt (now (src .entry)) place)) ⌝ }
 {
     if place + 122 <= 8 * src.len() {
         let star = words::inner::whole_field(Order::Big, src, place, 20);
         let date = words::inner::whole_field(Order::Big, src, place + 20, 38);
-        let rest = words::inner::whole_field(Order::Big, src, place + 58, 31);
+        let rest = words::inner::whole_field(Order::Big, src, place + 58, LAST_FOUR);
         put_parts(numbers, at, star, date, rest);
     } else {
         let star = words::inner::short_field(Order::Big, src, place, 20);
         let date = words::inner::short_field(Order::Big, src, place + 20, 38);
-        let rest = words::inner::short_field(Order::Big, src, place + 58, 31);
+        let rest = words::inner::short_field(Order::Big, src, place + 58, LAST_FOUR);
         put_parts(numbers, at, star, date, rest);
     }
 }
 
 // Stores the numbers of the first records of a strip.
 pub fn put_numbers(src: &[u8], count: usize, numbers: &mut [u64])
-    requires { ⌜ (recordBits * count ≤ 8 * length (now src)) × (length (now src) ≤ limit) × (6 * count ≤ length (now numbers)) ⌝ }
+    requires { ⌜ (recordBits * count ≤ 8 * length (now src)) × (length (now src) ≤ longest) × (6 * count ≤ length (now numbers)) ⌝ }
     ensures { λ _. ⌜ now (numbers .exit) ≡ sets (now (numbers .entry)) 0 (allNumbers (recordsFrom (now (src .entry)) 0 count)) ⌝ }
 {
     let mut i = 0;
@@ -286,17 +257,17 @@ pub fn put_numbers(src: &[u8], count: usize, numbers: &mut [u64])
     while i < count {
         put_numbers_at(src, place, numbers, at);
         i += 1;
-        place += 89;
+        place += RECORD_BITS;
         at += 6;
     }
 }
 
 // Whether the bits behind the last record are under eight, and all zero.
 pub fn tail_good(src: &[u8]) -> bool
-    requires { ⌜ length (now src) ≤ limit ⌝ }
+    requires { ⌜ length (now src) ≤ longest ⌝ }
     ensures { λ r. ⌜ r ≡ tailGood·of (now (src .entry)) ⌝ }
 {
-    let bits = 8 * src.len() % 89;
+    let bits = 8 * src.len() % RECORD_BITS;
     if bits < 8 {
         return words::inner::short_field(Order::Big, src, 8 * src.len() - bits, bits as u32) == 0;
     }

@@ -2,6 +2,7 @@
 use bits::Order;
 use bits::refusals;
 use reader::Cursor;
+use record::RECORD_BITS;
 use record::Record;
 use writer::Writer;
 use writer::Wrote;
@@ -32,6 +33,8 @@ pub struct StripRead {
 }
 
 // Writes a record's 89 bits. Refusals 1, 2, 4 (a number does not fit its field) and 8, before the first bit.
+//     let wrote = strip::pack_record(blank, &mut out, found);
+//     expect(b"pack_record", out[2] == 0x5e);
 pub fn pack_record(writer: Writer, out: &mut [u8], found: Record) -> Wrote
     ensures answer { λ r. ⌜ r ≡ packOf (length (now (out .entry))) writer found ⌝ }
     ensures memory { λ _. ⌜ now (out .exit) ≡ packOut (now (out .entry)) writer found ⌝ }
@@ -51,6 +54,9 @@ pub fn pack_record(writer: Writer, out: &mut [u8], found: Record) -> Wrote
 }
 
 // Reads the record at a cursor. Refusals 1, 2 and 9. The cursor behind it holds fewer than eight bits.
+//     let read = strip::read_record(start, &out);
+//     let found = read.found;
+//     expect(b"read_record", found.magnitude == -1440);
 pub fn read_record(cursor: Cursor, src: &[u8]) -> RecordRead
     ensures { λ r. ⌜ r ≡ readOf (now (src .entry)) cursor ⌝ }
 {
@@ -62,16 +68,18 @@ pub fn read_record(cursor: Cursor, src: &[u8]) -> RecordRead
             cursor: cursor,
         };
     }
-    let place = 8 * cursor.offset - cursor.lookahead as usize;
+    let place = reader::inner::place_of(src, cursor);
     RecordRead {
         refusal: refusals::DONE,
         found: inner::record_at(src, place),
-        cursor: reader::inner::cursor_at(Order::Big, src, place + 89),
+        cursor: reader::inner::gone_to(Order::Big, src, cursor, place + RECORD_BITS),
     }
 }
 
 // Packs the first n records of a list of numbers, six a record, into a strip, and answers its length. Refusals 1, 4 and 8 (also for
 // fewer than 6 n numbers), before the first byte; what lies past the strip is untouched.
+//     let packed = strip::pack_strip(&list, 1, &mut out);
+//     expect(b"pack_strip", packed.length == 12);
 pub fn pack_strip(numbers: &[u64], n: usize, out: &mut [u8]) -> Packed
     ensures answer { λ r. ⌜ r ≡ stripOf (now (numbers .entry)) n (length (now (out .entry))) ⌝ }
     ensures memory { λ _. ⌜ now (out .exit) ≡ packedOut (now (numbers .entry)) n (now (out .entry)) ⌝ }
@@ -90,6 +98,8 @@ pub fn pack_strip(numbers: &[u64], n: usize, out: &mut [u8]) -> Packed
 }
 
 // Reads every record of a strip into a list of numbers, six a record. Refusals 1 and 8; the rest of the list is untouched.
+//     let read = strip::read_strip(&out, &mut list);
+//     expect(b"read_strip", read.tail_good);
 pub fn read_strip(src: &[u8], numbers: &mut [u64]) -> StripRead
     ensures answer { λ r. ⌜ r ≡ listOf (now (src .entry)) (length (now (numbers .entry))) ⌝ }
     ensures memory { λ _. ⌜ now (numbers .exit) ≡ listOut (now (src .entry)) (now (numbers .entry)) ⌝ }
@@ -102,7 +112,7 @@ pub fn read_strip(src: &[u8], numbers: &mut [u64]) -> StripRead
             tail_good: false,
         };
     }
-    let count = 8 * src.len() / 89;
+    let count = 8 * src.len() / RECORD_BITS;
     inner::put_numbers(src, count, numbers);
     StripRead {
         refusal: refusals::DONE,

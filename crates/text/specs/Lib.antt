@@ -1,10 +1,3 @@
 pub mod Text
 pub mod Answers
 pub mod Grammar
-pub mod HeaderLaws
-pub mod LinesLaws
-pub mod PackLaws
-pub mod ListLaws
-pub mod AnswerLaws
-pub mod GrammarLaws
-pub mod Theorems

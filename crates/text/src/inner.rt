@@ -2,55 +2,64 @@
 use bits::Order;
 use bits::refusals;
 use packing::State;
+use record::RECORD_BITS;
 ghost use mathlib.Core.Path.{_≡_};
 ghost use mathlib.Core.Bool.{true, cond};
 ghost use Prim.Native.Nat.{_+_, _*_, _≤_};
 ghost use lib.ListN.{length};
 ghost use lib.Seq.{sets};
 ghost use lib.Dec.{eqb};
-ghost use Rattle.bits.specs.Refusals.{limit, badLine};
+ghost use Rattle.bits.specs.Refusals.{longest, badLine};
 ghost use Rattle.strip.specs.Strip.{stripLength};
 ghost use Rattle.strip.specs.Answers.{stripOut};
 ghost use Rattle.text.specs.Text.{header, badTail, textOf, headed, bodyOf, badLineOf};
 ghost use Rattle.text.specs.Answers.{listRefusal, packRefusal};
 
-pub const HEADER: [u8; 31] = *b"star,date,limit,mag,err,filter\n";
+// The header line and the last line of a strip whose tail is bad, and how many bytes they have.
+const HEADER_LENGTH: usize = 31;
 
-pub const BAD_TAIL: [u8; 9] = *b"bad tail\n";
+const HEADER: [u8; HEADER_LENGTH] = *b"star,date,limit,mag,err,filter\n";
+
+const BAD_TAIL_LENGTH: usize = 9;
+
+const BAD_TAIL: [u8; BAD_TAIL_LENGTH] = *b"bad tail\n";
 
 // ---- listing
 
 // How many bytes the text of a strip has.
 fn text_size(strip: &[u8]) -> usize
-    requires { ⌜ length (now strip) ≤ limit ⌝ }
+    requires { ⌜ length (now strip) ≤ longest ⌝ }
     ensures { λ r. ⌜ r ≡ length (textOf (now (strip .entry))) ⌝ }
 {
-    let count = 8 * strip.len() / 89;
-    let mut size: usize = 31;
+    let count = 8 * strip.len() / RECORD_BITS;
+    let mut size = HEADER_LENGTH;
     let mut i = 0;
     let mut place = 0;
     while i < count {
         size += listing::inner::line_size(strip::inner::record_at(strip, place));
         i += 1;
-        place += 89;
+        place += RECORD_BITS;
     }
     if strip::inner::tail_good(strip) {
         return size;
     }
-    size + 9
+    size + BAD_TAIL_LENGTH
 }
 
-// The refusal number of listing into `len` bytes. No line is above 41: where there is room for the longest, none is looked at.
+// No line has more bytes.
+const LONGEST_LINE: usize = 41;
+
+// The refusal number of listing into `len` bytes. Where there is room for the longest lines, none is looked at.
 pub fn list_refusal(strip: &[u8], len: usize) -> u32
     ensures { λ r. ⌜ r ≡ listRefusal (now (strip .entry)) len ⌝ }
 {
-    if refusals::LIMIT < strip.len() {
+    if refusals::LONGEST < strip.len() {
         return refusals::TOO_LONG;
     }
-    if refusals::LIMIT < len {
+    if refusals::LONGEST < len {
         return refusals::TOO_LONG;
     }
-    if 41 * (8 * strip.len() / 89) + 40 <= len {
+    if LONGEST_LINE * (8 * strip.len() / RECORD_BITS) + HEADER_LENGTH + BAD_TAIL_LENGTH <= len {
         return refusals::DONE;
     }
     if len < text_size(strip) {
@@ -61,11 +70,11 @@ pub fn list_refusal(strip: &[u8], len: usize) -> u32
 
 // Writes the header line at the front.
 fn put_header(out: &mut [u8])
-    requires { ⌜ 31 ≤ length (now out) ⌝ }
+    requires { ⌜ length header ≤ length (now out) ⌝ }
     ensures { λ _. ⌜ now (out .exit) ≡ sets (now (out .entry)) 0 header ⌝ }
 {
     let mut i = 0;
-    while i < 31 {
+    while i < HEADER_LENGTH {
         out[i] = HEADER[i];
         i += 1;
     }
@@ -73,19 +82,19 @@ fn put_header(out: &mut [u8])
 
 // Writes the text of a strip; the answer is its length.
 pub fn put_text(strip: &[u8], out: &mut [u8]) -> usize
-    requires { ⌜ (length (now strip) ≤ limit) × (length (textOf (now strip)) ≤ length (now out)) ⌝ }
+    requires { ⌜ (length (now strip) ≤ longest) × (length (textOf (now strip)) ≤ length (now out)) ⌝ }
     ensures answer { λ r. ⌜ r ≡ length (textOf (now (strip .entry))) ⌝ }
     ensures memory { λ _. ⌜ now (out .exit) ≡ sets (now (out .entry)) 0 (textOf (now (strip .entry))) ⌝ }
 {
     put_header(out);
-    let count = 8 * strip.len() / 89;
-    let mut at: usize = 31;
+    let count = 8 * strip.len() / RECORD_BITS;
+    let mut at = HEADER_LENGTH;
     let mut i = 0;
     let mut place = 0;
     while i < count {
         at = listing::inner::put_line(strip::inner::record_at(strip, place), out, at);
         i += 1;
-        place += 89;
+        place += RECORD_BITS;
     }
     if strip::inner::tail_good(strip) {
         return at;
@@ -95,16 +104,16 @@ pub fn put_text(strip: &[u8], out: &mut [u8]) -> usize
 
 // Writes `bad tail` at a place, and answers the place behind it.
 fn put_bad_tail(out: &mut [u8], at: usize) -> usize
-    requires { ⌜ at + 9 ≤ length (now out) ⌝ }
-    ensures answer { λ r. ⌜ r ≡ at + 9 ⌝ }
+    requires { ⌜ at + length badTail ≤ length (now out) ⌝ }
+    ensures answer { λ r. ⌜ r ≡ at + length badTail ⌝ }
     ensures memory { λ _. ⌜ now (out .exit) ≡ sets (now (out .entry)) at badTail ⌝ }
 {
     let mut i = 0;
-    while i < 9 {
+    while i < BAD_TAIL_LENGTH {
         out[at + i] = BAD_TAIL[i];
         i += 1;
     }
-    at + 9
+    at + BAD_TAIL_LENGTH
 }
 
 // ---- packing
@@ -113,11 +122,11 @@ fn put_bad_tail(out: &mut [u8], at: usize) -> usize
 fn has_header(text: &[u8]) -> bool
     ensures { λ r. ⌜ r ≡ headed header (now (text .entry)) ⌝ }
 {
-    if text.len() < 31 {
+    if text.len() < HEADER_LENGTH {
         return false;
     }
     let mut k = 0;
-    while k < 31 {
+    while k < HEADER_LENGTH {
         if text[k] != HEADER[k] {
             return false;
         }
@@ -134,10 +143,10 @@ pub struct Counted {
 
 // Reads the lines behind the header.
 fn count_lines(text: &[u8]) -> Counted
-    requires { ⌜ 31 ≤ length (now text) ⌝ }
+    requires { ⌜ length header ≤ length (now text) ⌝ }
     ensures { λ r. ⌜ r ≡ record { count = length (bodyOf (now (text .entry)) .records); good = bodyOf (now (text .entry)) .good } ⌝ }
 {
-    let mut at: usize = 31;
+    let mut at = HEADER_LENGTH;
     let mut count: usize = 0;
     while at < text.len() {
         let line = line::inner::line_at(text, at);
@@ -161,16 +170,16 @@ pub struct Found {
 pub fn pack_refusal(text: &[u8], len: usize) -> Found
     ensures { λ r. ⌜ r ≡ record { refusal = packRefusal (now (text .entry)) len; line = cond (eqb (packRefusal (now (text .entry)) len) badLine) (badLineOf (now (text .entry))) 0 } ⌝ }
 {
-    if refusals::LIMIT < text.len() {
+    if refusals::LONGEST < text.len() {
         return because(refusals::TOO_LONG, 0);
     }
-    if refusals::LIMIT < len {
+    if refusals::LONGEST < len {
         return because(refusals::TOO_LONG, 0);
     }
     if has_header(text) {
         let lines = count_lines(text);
         if lines.good {
-            if 8 * len / 89 < lines.count {
+            if 8 * len / RECORD_BITS < lines.count {
                 return because(refusals::NO_ROOM, 0);
             }
             return because(refusals::DONE, 0);
@@ -188,7 +197,7 @@ fn because(refusal: u32, line: usize) -> Found
 
 // Packs the lines of a good text and flushes; the answer is the strip's length.
 pub fn put_records(text: &[u8], out: &mut [u8]) -> usize
-    requires { ⌜ (31 ≤ length (now text)) × (length (now text) ≤ limit) × (length (now out) ≤ limit) × (bodyOf (now text) .good ≡ true) × (stripLength (length (bodyOf (now text) .records)) ≤ length (now out)) ⌝ }
+    requires { ⌜ (length header ≤ length (now text)) × (length (now text) ≤ longest) × (length (now out) ≤ longest) × (bodyOf (now text) .good ≡ true) × (stripLength (length (bodyOf (now text) .records)) ≤ length (now out)) ⌝ }
     ensures answer { λ r. ⌜ r ≡ stripLength (length (bodyOf (now (text .entry)) .records)) ⌝ }
     ensures memory { λ _. ⌜ now (out .exit) ≡ stripOut (bodyOf (now (text .entry)) .records) (now (out .entry)) ⌝ }
 {
@@ -197,7 +206,7 @@ pub fn put_records(text: &[u8], out: &mut [u8]) -> usize
         held: 0,
         number: 0,
     };
-    let mut at: usize = 31;
+    let mut at = HEADER_LENGTH;
     while at < text.len() {
         let line = line::inner::line_at(text, at);
         let record = line.record;

@@ -21,6 +21,8 @@ pub struct Packed {
 
 // Writes the text of a strip: the header line, a line a record, and `bad tail` where the tail is bad. Refusals 1 and 8, before the
 // first byte; what lies past the text is untouched.
+//     let listed = text::list_text(b"\x00", &mut out);
+//     expect(b"list_text", listed.length == 40);
 pub fn list_text(strip: &[u8], out: &mut [u8]) -> Listed
     ensures answer { λ r. ⌜ r ≡ listOf (now (strip .entry)) (length (now (out .entry))) ⌝ }
     ensures memory { λ _. ⌜ now (out .exit) ≡ listOut (now (strip .entry)) (now (out .entry)) ⌝ }
@@ -40,6 +42,8 @@ pub fn list_text(strip: &[u8], out: &mut [u8]) -> Listed
 
 // Packs a text into a strip. Refusals 1, 7 (another header, or a line that breaks the line rules; its number is told, the header being
 // line 1) and 8, before the first byte; what lies past the strip is untouched.
+//     let packed = text::pack_text(b"star,date\n", &mut out);
+//     expect(b"pack_text", packed.line == 1);
 pub fn pack_text(text: &[u8], out: &mut [u8]) -> Packed
     ensures answer { λ r. ⌜ r ≡ packOf (now (text .entry)) (length (now (out .entry))) ⌝ }
     ensures memory { λ _. ⌜ now (out .exit) ≡ packOut (now (text .entry)) (now (out .entry)) ⌝ }

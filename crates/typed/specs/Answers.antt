@@ -1,10 +1,8 @@
 -- What typed reads and writes answer, on every input.
 use Prim.Native.Nat.{ℕ}
-use mathlib.Core.Bool.{cond}
 use mathlib.Core.List.{List}
-use lib.Dec.{eqb}
 use Rattle.bits.specs.declared.Order.{Order}
-use Rattle.bits.specs.Refusals.{done}
+use Rattle.bits.specs.Refusals.{done, ifDone}
 use Rattle.floats.specs.Floats.{singleBits, doubleBits}
 use Rattle.reader.specs.declared.Cursor.{Cursor}
 use Rattle.reader.specs.declared.ReadU64.{ReadU64}
@@ -31,7 +29,7 @@ cursorIn (Refused n c) = c
 
 -- a value with the cursor that goes on, or a refusal number with the one that came
 unfoldable pub answered : ℕ → Typed → Cursor → TypedRead
-answered e v c = cond (eqb e done) (Done v c) (Refused e c)
+answered e v c = ifDone e (Done v c) (Refused e c)
 
 -- a typed read: the field of the kind's width at the place, by the kind's meaning
 unfoldable pub readOf : Order → List ℕ → Cursor → Kind → ℕ → TypedRead

@@ -34,6 +34,9 @@ pub enum TypedRead {
 }
 
 // The value of a kind that 64 bits make: themselves, their two's complement, their low 32 as a single, or all as a double.
+//     let two = typed::typed_of_bits(Kind::Signed, 0xffff_ffff_ffff_fffe);
+//     let bits = typed::bits_of_typed(two);
+//     expect(b"bits_of_typed", bits == 0xffff_ffff_ffff_fffe);
 pub fn typed_of_bits(kind: Kind, bits: u64) -> Typed
     ensures { λ r. ⌜ r ≡ typedOf kind bits ⌝ }
 {
@@ -46,6 +49,9 @@ pub fn typed_of_bits(kind: Kind, bits: u64) -> Typed
 }
 
 // The bits of a typed value, a single's in the low 32.
+//     let two = typed::typed_of_bits(Kind::Signed, 0xffff_ffff_ffff_fffe);
+//     let bits = typed::bits_of_typed(two);
+//     expect(b"bits_of_typed", bits == 0xffff_ffff_ffff_fffe);
 pub fn bits_of_typed(value: Typed) -> u64
     ensures { λ r. ⌜ r ≡ bitsOf value ⌝ }
 {
@@ -58,6 +64,8 @@ pub fn bits_of_typed(value: Typed) -> u64
 }
 
 // Reads a value of a kind; the width is that of an unsigned or signed one, and else not looked at. Refusals 1, 2, 3 and 9.
+//     let read = typed::read_typed(start, Order::Big, b"\xfe", Kind::Signed, 8);
+//     expect(b"read_typed", bits_read(read) == 0xffff_ffff_ffff_fffe);
 pub fn read_typed(cursor: Cursor, order: Order, src: &[u8], kind: Kind, width: u32) -> TypedRead
     ensures { λ r. ⌜ r ≡ readOf order (now (src .entry)) cursor kind width ⌝ }
 {
@@ -100,6 +108,8 @@ fn answer(refusal: u32, value: Typed, cursor: Cursor) -> TypedRead
 
 // Writes a typed value; its case is its kind, and the width is that of an unsigned or signed one, else not looked at. Refusals as for
 // the write beneath: 1, 2, 3, 4 and 8.
+//     let _wrote = typed::write_typed(blank, Order::Big, &mut out, two, 8);
+//     expect(b"write_typed", out[0] == 0xfe);
 pub fn write_typed(writer: Writer, order: Order, out: &mut [u8], value: Typed, width: u32) -> Wrote
     ensures answer { λ r. ⌜ r ≡ writeOf order (length (now (out .entry))) writer value width ⌝ }
     ensures memory { λ _. ⌜ now (out .exit) ≡ writeOut order (now (out .entry)) writer value width ⌝ }

@@ -3,7 +3,7 @@ use bits::Order;
 ghost use mathlib.Core.Path.{_≡_};
 ghost use Prim.Native.Nat.{_+_, _-_, _*_, _/_, _≤_};
 ghost use lib.ListN.{length, getD};
-ghost use Rattle.bits.specs.Refusals.{limit};
+ghost use Rattle.bits.specs.Refusals.{longest};
 ghost use Rattle.bits.specs.Field.{field};
 ghost use Rattle.bits.specs.Word.{first, skipped};
 ghost use Rattle.words.specs.Eight.{eight, swapped};
@@ -75,7 +75,7 @@ pub fn load_whole(order: Order, src: &[u8], at: usize) -> u64
 
 // n bytes from byte `at` on, one by one; past the end zeros stand. (It calls itself, so that the compiler leaves it out of line.)
 fn load_bytes(order: Order, src: &[u8], at: usize, n: u32) -> u64
-    requires { ⌜ (n ≤ 8) × (at + n ≤ limit + 8) ⌝ }
+    requires { ⌜ (n ≤ 8) × (at + n ≤ longest + 8) ⌝ }
     ensures { λ r. ⌜ r ≡ field order (now (src .entry)) (8 * at) (8 * n) ⌝ }
 {
     if n == 0 {
@@ -88,7 +88,7 @@ fn load_bytes(order: Order, src: &[u8], at: usize, n: u32) -> u64
 
 // The 64 bits from byte `at` on, byte by byte. (The slice is lent again, so that the compiler keeps the caller's in registers.)
 fn load_end(order: Order, src: &[u8], at: usize) -> u64
-    requires { ⌜ at ≤ limit ⌝ }
+    requires { ⌜ at ≤ longest ⌝ }
     ensures { λ r. ⌜ r ≡ field order (now (src .entry)) (8 * at) 64 ⌝ }
 {
     load_bytes(order, &src[..src.len()], at, 8)
@@ -96,7 +96,7 @@ fn load_end(order: Order, src: &[u8], at: usize) -> u64
 
 // The 64 bits from byte `at` on; past the end zeros stand.
 pub fn load(order: Order, src: &[u8], at: usize) -> u64
-    requires { ⌜ (at ≤ length (now src)) × (length (now src) ≤ limit) ⌝ }
+    requires { ⌜ (at ≤ length (now src)) × (length (now src) ≤ longest) ⌝ }
     ensures { λ r. ⌜ r ≡ field order (now (src .entry)) (8 * at) 64 ⌝ }
 {
     match order {
@@ -138,7 +138,7 @@ pub fn whole_field(order: Order, src: &[u8], place: usize, width: u32) -> u64
 
 // The field of at most 57 bits at a place.
 pub fn short_field(order: Order, src: &[u8], place: usize, width: u32) -> u64
-    requires { ⌜ (width ≤ 57) × (place ≤ 8 * length (now src)) × (length (now src) ≤ limit) ⌝ }
+    requires { ⌜ (width ≤ 57) × (place ≤ 8 * length (now src)) × (length (now src) ≤ longest) ⌝ }
     ensures { λ r. ⌜ r ≡ field order (now (src .entry)) place width ⌝ }
 {
     part(
@@ -151,7 +151,7 @@ pub fn short_field(order: Order, src: &[u8], place: usize, width: u32) -> u64
 
 // The field of at most 64 bits at a place; a wide one is two short ones, joined.
 pub fn field_at(order: Order, src: &[u8], place: usize, width: u32) -> u64
-    requires { ⌜ (width ≤ 64) × (place + width ≤ 8 * length (now src)) × (length (now src) ≤ limit) ⌝ }
+    requires { ⌜ (width ≤ 64) × (place + width ≤ 8 * length (now src)) × (length (now src) ≤ longest) ⌝ }
     ensures { λ r. ⌜ r ≡ field order (now (src .entry)) place width ⌝ }
 {
     if width <= 56 {

@@ -89,7 +89,7 @@ pub fn signed_refusal(len: usize, w: Writer, bits: u32, value: i64) -> u32
 pub fn bytes_refusal(len: usize, w: Writer, n: usize) -> u32
     ensures { λ r. ⌜ r ≡ bytesRefusal len w n ⌝ }
 {
-    if refusals::LIMIT < n {
+    if refusals::LONGEST < n {
         return refusals::TOO_LONG;
     }
     let refusal = packing::inner::refusal(len, state_in(w));

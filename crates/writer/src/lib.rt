@@ -1,6 +1,6 @@
 // A writer over a lent output: bits, fields and bytes written in either order. Each method takes the output too, tests that the writer
 // belongs to it, and hands the writer back as a new one with a refusal number; a refusal leaves writer and output as they came. The
-// methods stand in the order of the Rust's BitWriter.
+// methods stand in the order of the Rust's BitWriter. The examples are those of the program example_calls: `blank` is a fresh writer.
 use bits::Order;
 use bits::refusals;
 use floats::Double;
@@ -34,6 +34,8 @@ pub struct Unaligned {
 
 impl Writer {
     // A writer at the start of an output, or refusal 1; all zeros either way.
+    //     let made = Writer::new(&out);
+    //     expect(b"Writer::new", made.refusal == 0);
     pub fn new(out: &[u8]) -> Wrote
         ensures { λ r. ⌜ r ≡ newOf (length (now (out .entry))) ⌝ }
     {
@@ -42,7 +44,7 @@ impl Writer {
             held: 0,
             number: 0,
         };
-        if refusals::LIMIT < out.len() {
+        if refusals::LONGEST < out.len() {
             return Wrote {
                 refusal: refusals::TOO_LONG,
                 writer: writer,
@@ -55,6 +57,8 @@ impl Writer {
     }
 
     // One bit.
+    //     let wrote = blank.write_bit(Order::Big, &mut out, true);
+    //     expect(b"write_bit", wrote.refusal == 0);
     pub fn write_bit(self, order: Order, out: &mut [u8], value: bool) -> Wrote
         ensures answer { λ r. ⌜ r ≡ writeOf order (length (now (out .entry))) self 1 (cond value 1 0) ⌝ }
         ensures memory { λ _. ⌜ now (out .exit) ≡ writeOut order (now (out .entry)) self 1 (cond value 1 0) ⌝ }
@@ -63,6 +67,8 @@ impl Writer {
     }
 
     // Eight bits.
+    //     let _wrote = blank.write_u8(Order::Big, &mut out, 0x5a);
+    //     expect(b"write_u8", out[0] == 0x5a);
     pub fn write_u8(self, order: Order, out: &mut [u8], value: u8) -> Wrote
         ensures answer { λ r. ⌜ r ≡ writeOf order (length (now (out .entry))) self 8 value ⌝ }
         ensures memory { λ _. ⌜ now (out .exit) ≡ writeOut order (now (out .entry)) self 8 value ⌝ }
@@ -71,6 +77,8 @@ impl Writer {
     }
 
     // Eight bits of a signed number.
+    //     let _wrote = blank.write_i8(Order::Big, &mut out, -38);
+    //     expect(b"write_i8", out[0] == 0xda);
     pub fn write_i8(self, order: Order, out: &mut [u8], value: i8) -> Wrote
         ensures answer { λ r. ⌜ r ≡ signedOf order (length (now (out .entry))) self 8 value ⌝ }
         ensures memory { λ _. ⌜ now (out .exit) ≡ signedOut order (now (out .entry)) self 8 value ⌝ }
@@ -79,6 +87,8 @@ impl Writer {
     }
 
     // Sixteen bits.
+    //     let _wrote = blank.write_u16(Order::Little, &mut out, 0x0201);
+    //     expect(b"write_u16", out[1] == 2);
     pub fn write_u16(self, order: Order, out: &mut [u8], value: u16) -> Wrote
         ensures answer { λ r. ⌜ r ≡ writeOf order (length (now (out .entry))) self 16 value ⌝ }
         ensures memory { λ _. ⌜ now (out .exit) ≡ writeOut order (now (out .entry)) self 16 value ⌝ }
@@ -87,6 +97,8 @@ impl Writer {
     }
 
     // Sixteen bits of a signed number.
+    //     let _wrote = blank.write_i16(Order::Big, &mut out, -2);
+    //     expect(b"write_i16", out[1] == 0xfe);
     pub fn write_i16(self, order: Order, out: &mut [u8], value: i16) -> Wrote
         ensures answer { λ r. ⌜ r ≡ signedOf order (length (now (out .entry))) self 16 value ⌝ }
         ensures memory { λ _. ⌜ now (out .exit) ≡ signedOut order (now (out .entry)) self 16 value ⌝ }
@@ -95,6 +107,8 @@ impl Writer {
     }
 
     // 32 bits.
+    //     let _wrote = blank.write_u32(Order::Big, &mut out, 0x0001_0203);
+    //     expect(b"write_u32", out[3] == 3);
     pub fn write_u32(self, order: Order, out: &mut [u8], value: u32) -> Wrote
         ensures answer { λ r. ⌜ r ≡ writeOf order (length (now (out .entry))) self 32 value ⌝ }
         ensures memory { λ _. ⌜ now (out .exit) ≡ writeOut order (now (out .entry)) self 32 value ⌝ }
@@ -103,6 +117,8 @@ impl Writer {
     }
 
     // 32 bits of a signed number.
+    //     let _wrote = blank.write_i32(Order::Big, &mut out, -2);
+    //     expect(b"write_i32", out[3] == 0xfe);
     pub fn write_i32(self, order: Order, out: &mut [u8], value: i32) -> Wrote
         ensures answer { λ r. ⌜ r ≡ signedOf order (length (now (out .entry))) self 32 value ⌝ }
         ensures memory { λ _. ⌜ now (out .exit) ≡ signedOut order (now (out .entry)) self 32 value ⌝ }
@@ -111,6 +127,9 @@ impl Writer {
     }
 
     // The 32 bits of a single, as they are.
+    //     let one = floats::single_of_bits(0x3f80_0000);
+    //     let _wrote = blank.write_f32(Order::Big, &mut out, one);
+    //     expect(b"write_f32", out[0] == 0x3f);
     pub fn write_f32(self, order: Order, out: &mut [u8], value: Single) -> Wrote
         ensures answer { λ r. ⌜ r ≡ writeOf order (length (now (out .entry))) self 32 (singleBits value) ⌝ }
         ensures memory { λ _. ⌜ now (out .exit) ≡ writeOut order (now (out .entry)) self 32 (singleBits value) ⌝ }
@@ -119,6 +138,8 @@ impl Writer {
     }
 
     // 64 bits.
+    //     let _wrote = blank.write_u64(Order::Big, &mut out, 0x0001_0203_0405_0607);
+    //     expect(b"write_u64", out[7] == 7);
     pub fn write_u64(self, order: Order, out: &mut [u8], value: u64) -> Wrote
         ensures answer { λ r. ⌜ r ≡ writeOf order (length (now (out .entry))) self 64 value ⌝ }
         ensures memory { λ _. ⌜ now (out .exit) ≡ writeOut order (now (out .entry)) self 64 value ⌝ }
@@ -127,6 +148,8 @@ impl Writer {
     }
 
     // 64 bits of a signed number.
+    //     let _wrote = blank.write_i64(Order::Big, &mut out, -2);
+    //     expect(b"write_i64", out[7] == 0xfe);
     pub fn write_i64(self, order: Order, out: &mut [u8], value: i64) -> Wrote
         ensures answer { λ r. ⌜ r ≡ signedOf order (length (now (out .entry))) self 64 value ⌝ }
         ensures memory { λ _. ⌜ now (out .exit) ≡ signedOut order (now (out .entry)) self 64 value ⌝ }
@@ -135,6 +158,9 @@ impl Writer {
     }
 
     // The 64 bits of a double, as they are.
+    //     let one = floats::double_of_bits(0x3ff0_0000_0000_0000);
+    //     let _wrote = blank.write_f64(Order::Big, &mut out, one);
+    //     expect(b"write_f64", out[1] == 0xf0);
     pub fn write_f64(self, order: Order, out: &mut [u8], value: Double) -> Wrote
         ensures answer { λ r. ⌜ r ≡ writeOf order (length (now (out .entry))) self 64 (doubleBits value) ⌝ }
         ensures memory { λ _. ⌜ now (out .exit) ≡ writeOut order (now (out .entry)) self 64 (doubleBits value) ⌝ }
@@ -143,6 +169,8 @@ impl Writer {
     }
 
     // A field of 0 to 64 bits. Refusals 1, 2, 3, 4 (the value does not fit 1 to 63 bits) and 8; width 0 takes any value and stores none.
+    //     let wrote = blank.write_bits(Order::Big, &mut out, 3, 5);
+    //     expect(b"write_bits", wrote.refusal == 0);
     pub fn write_bits(mut self, order: Order, out: &mut [u8], bits: u32, value: u64) -> Wrote
         ensures answer { λ r. ⌜ r ≡ writeOf order (length (now (out .entry))) self bits value ⌝ }
         ensures memory { λ _. ⌜ now (out .exit) ≡ writeOut order (now (out .entry)) self bits value ⌝ }
@@ -166,6 +194,8 @@ impl Writer {
     }
 
     // The low bits of a signed number, 0 to 64 of them. Refusals 1, 2, 3 and 8.
+    //     let wrote = last.write_signed_bits(Order::Big, &mut out, 8, -1);
+    //     expect(b"write_signed_bits", out[1] == 0xff);
     pub fn write_signed_bits(mut self, order: Order, out: &mut [u8], bits: u32, value: i64) -> Wrote
         ensures answer { λ r. ⌜ r ≡ signedOf order (length (now (out .entry))) self bits value ⌝ }
         ensures memory { λ _. ⌜ now (out .exit) ≡ signedOut order (now (out .entry)) self bits value ⌝ }
@@ -188,6 +218,8 @@ impl Writer {
     }
 
     // The bits written in the current partial byte: 0 where the writer is at a byte's start.
+    //     let over = next.unaligned_bits(&out);
+    //     expect(b"unaligned_bits", over.value == 3);
     pub fn unaligned_bits(self, out: &[u8]) -> Unaligned
         ensures { λ r. ⌜ r ≡ unalignedOf (length (now (out .entry))) self ⌝ }
     {
@@ -205,6 +237,8 @@ impl Writer {
     }
 
     // Bytes, eight bits each. Refusals 1 (also for the bytes), 2 and 8, before the first byte.
+    //     let _wrote = last.write_bytes(Order::Big, &mut out, b"\x01\x02");
+    //     expect(b"write_bytes", out[3] == 2);
     pub fn write_bytes(mut self, order: Order, out: &mut [u8], buf: &[u8]) -> Wrote
         ensures answer { λ r. ⌜ r ≡ bytesOf order (length (now (out .entry))) self (now (buf .entry)) ⌝ }
         ensures memory { λ _. ⌜ now (out .exit) ≡ bytesOut order (now (out .entry)) self (now (buf .entry)) ⌝ }
@@ -225,6 +259,8 @@ impl Writer {
     }
 
     // Zeros up to a byte; nothing where no bit is held. It always has room. Refusals 1 and 2.
+    //     let wrote = next.flush(Order::Big, &mut out);
+    //     expect(b"flush", out[0] == 0xa0);
     pub fn flush(mut self, order: Order, out: &mut [u8]) -> Wrote
         ensures answer { λ r. ⌜ r ≡ flushOf order (length (now (out .entry))) self ⌝ }
         ensures memory { λ _. ⌜ now (out .exit) ≡ flushOut order (now (out .entry)) self ⌝ }

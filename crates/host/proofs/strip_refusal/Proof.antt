@@ -3,7 +3,7 @@
 use borrow.Author.Needs.{needs}
 use mathlib.Core.Path.{sym}
 use native.Mathlib.Omega.{arith}
-use Rattle.host.specs.HostLaws.{refused-too-long, refused-too-wide, refused-too-few, not-refused}
+use Rattle.host.proofs.HostLaws.{refused-too-long, refused-too-wide, refused-too-few, not-refused}
 use Rattle.host.proofs.strip_refusal.Statement.{statement}
 use Rattle.host.proofs.strip_refusal.Tie as tie
 

@@ -4,7 +4,7 @@ use borrow.Author.Tests.{ne-eqb}
 use lib.ListN.{length}
 use Rattle.bits.specs.Refusals.{done}
 use Rattle.layout.specs.Answers.{compileRefusal, compileOf, compileOut}
-use Rattle.layout.specs.AnswerLaws.{compile-done}
+use Rattle.layout.proofs.AnswerLaws.{compile-done}
 use borrow.Author.Needs.{needs}
 use Rattle.layout.proofs.compile.Statement.{statement}
 use Rattle.layout.proofs.compile.Tie as tie

@@ -7,11 +7,11 @@ use native.Mathlib.Omega.{arith}
 use lib.ListN.{length}
 use lib.Seq.{sets}
 use Rattle.bits.specs.Refusals.{done}
-use Rattle.counts.specs.Counts.{countsAt}
-use Rattle.reader.specs.Cursor.{place, cursorAt}
+use Rattle.reader.specs.Cursor.{place, goneTo}
+use Rattle.reader.proofs.CursorLaws.{stop-inside}
 use Rattle.layout.specs.Layout.{bitsOf}
 use Rattle.plan.specs.Run.{valuesOf, fieldsOf, runRefusal}
-use Rattle.plan.specs.RunLaws.{Granted, granted, run-refused, run-done}
+use Rattle.plan.proofs.RunLaws.{Granted, granted, run-refused, run-done}
 use borrow.Author.Needs.{needs}
 use Rattle.plan.proofs.run.Statement.{statement}
 use Rattle.plan.proofs.run.Tie as tie
@@ -27,10 +27,10 @@ quick : (c : tie.Then1) →
     (runRefusal (a .order) (a .src .now) (a .cursor) (a .plan .now) (length (a .results .now)) ≡ done) × (c .before .before .before .before .run-quick .result .end ≡ place (a .cursor) + bitsOf (fieldsOf (a .plan .now)))
 quick c = c .before .before .before .before .run-quick .ensures .0 (c .if1 .taken)
 
-cursor-at-requires : tie.Need-cursor-at-requires
-cursor-at-requires c κs =
+gone-to-requires : tie.Need-gone-to-requires
+gone-to-requires c κs =
     let r = granted _ _ _ _ _ (quick c .0) in
-    (omega (arith, quick c .1, r .inside), r .belongs .short)
+    (omega (arith, quick c .1, r .inside, stop-inside (r .belongs .fits)), r .belongs .fits .short)
 
 same-length : tie.Need-same-length
 same-length c = search needs
@@ -39,7 +39,7 @@ returns : tie.Need-returns
 returns c =
     let k = c .before in
     let a = k .before .before .before .before .before .before .before .before .before .args in
-    let end = c .cursor-at .ensures ∙ ap (λ (p : ℕ). cursorAt (a .order) (a .src .now) (countsAt p)) (quick k .1) in
+    let end = c .gone-to .ensures ∙ ap (goneTo (a .order) (a .src .now) (a .cursor)) (quick k .1) in
     run-done _ _ _ _ _ (sym (quick k .0)) refl end (k .before .before .before .before .run-quick .ensures .1 .0 (k .if1 .taken))
 
 -- ---- step by step
@@ -71,35 +71,33 @@ ready : (c : tie.Else2) →
     Granted (a .order) (a .src .now) (a .cursor) (a .plan .now) (length (a .results .now))
 ready c = granted _ _ _ _ _ (sym (found (c .before)) ∙ c .if2 .left)
 
-mul-run-plan : tie.Need-mul-run-plan
-mul-run-plan c = let h = ready (c .before) .belongs in omega (arith, h .within .fetched, h .short)
-
-cast-run-plan : tie.Need-cast-run-plan
-cast-run-plan c = search needs
-
-sub-run-plan : tie.Need-sub-run-plan
-sub-run-plan c = ready (c .before .before) .belongs .within .behind
+place-of-requires : tie.Need-place-of-requires
+place-of-requires c κs = ready c .belongs .fits
 
 run-plan-requires : tie.Need-run-plan-requires
 run-plan-requires c κs =
-    let k = c .before .before .before in
-    let r = ready k in
-    (r .belongs .short, r .passes, r .inside, omega (arith, r .fits, ap length (same (k .before .before))))
+    let k = c .before .before in
+    let r = ready k in (
+      r .belongs .fits .short,
+      r .passes,
+      omega (arith, c .before .place-of .ensures, r .inside, stop-inside (r .belongs .fits)),
+      omega (arith, r .fits, ap length (same (k .before .before))),
+    )
 
-cursor-at-requires-2 : tie.Need-cursor-at-requires-2
-cursor-at-requires-2 c κs =
-    let r = ready (c .before .before .before .before .before .before) in
-    (omega (arith, c .before .before .run-plan .ensures .0, r .inside), r .belongs .short)
+gone-to-requires-2 : tie.Need-gone-to-requires-2
+gone-to-requires-2 c κs =
+    let r = ready (c .before .before .before .before .before) in
+    (omega (arith, c .before .before .run-plan .ensures .0, c .before .before .before .before .place-of .ensures, r .inside, stop-inside (r .belongs .fits)), r .belongs .fits .short)
 
 same-length-3 : tie.Need-same-length-3
 same-length-3 c = search needs
 
 returns-3 : tie.Need-returns-3
 returns-3 c =
-    let k = c .before .before .before .before .before .before .before in
+    let k = c .before .before .before .before .before .before in
     let a = k .before .before .before .before .before .before .before .before .before .before .before .args in
-    let ran = c .before .before .before .run-plan .ensures in
-    let end = c .cursor-at2 .ensures ∙ ap (λ (p : ℕ). cursorAt (a .order) (a .src .now) (countsAt p)) (ran .0) in
+    let ran = rw (c .before .before .before .before .before .place-of .ensures) at (c .before .before .before .run-plan .ensures) in
+    let end = c .gone-to2 .ensures ∙ ap (goneTo (a .order) (a .src .now) (a .cursor)) (ran .0) in
     let out = ran .1 ∙ ap (λ (l : List ℕ). sets l 0 (valuesOf (a .order) (a .src .now) (place (a .cursor)) (fieldsOf (a .plan .now)))) (same (k .before .before)) in
     run-done _ _ _ _ _ (found (k .before)) (k .if2 .left) end out
 
@@ -108,16 +106,14 @@ run-spec =
     tie.close
     (tie.spec
     run-quick-requires
-    cursor-at-requires
+    gone-to-requires
     same-length
     returns
     run-refusal-requires
     same-length-2
     returns-2
-    mul-run-plan
-    cast-run-plan
-    sub-run-plan
+    place-of-requires
     run-plan-requires
-    cursor-at-requires-2
+    gone-to-requires-2
     same-length-3
     returns-3)

@@ -5,12 +5,13 @@ use mir.Syntax.{w64}
 use mir.ValLaws.{toZ-ofZ}
 use borrow.Author.Needs.{needs}
 use borrow.Author.Tests.{lt-ltb, le-ltb, le-leb, lt-leb, ltb-true, ltb-false}
-use Rattle.sign.specs.Extend.{extendOf}
+use Rattle.bits.specs.Refusals.{orElse, firstRefusal}
+use Rattle.sign.specs.Extend.{extendRefusal, extendOf}
 use Rattle.sign.proofs.sign_extend.Statement.{statement}
 use Rattle.sign.proofs.sign_extend.Tie as tie
 
 returns : tie.Need-returns
-unfolding extendOf
+unfolding extendOf extendRefusal firstRefusal orElse
 returns c = simp (lt-ltb _ _ (c .if1 .taken))
 
 fits-requires : tie.Need-fits-requires
@@ -28,13 +29,13 @@ extend-requires : tie.Need-extend-requires
 extend-requires c κs = (c .before .before .if1 .left, small c)
 
 returns-2 : tie.Need-returns-2
-unfolding extendOf
+unfolding extendOf extendRefusal firstRefusal orElse
 returns-2 c =
     let e = toZ-ofZ w64 (c .extend .result) (record { sfits = c .extend .ok }) ∙ c .extend .ensures in
     simp (le-ltb _ _ (c .before .before .before .if1 .left), lt-leb _ _ (small (c .before)), e)
 
 returns-3 : tie.Need-returns-3
-unfolding extendOf
+unfolding extendOf extendRefusal firstRefusal orElse
 returns-3 c =
     simp (le-ltb _ _ (c .before .before .if1 .left), le-leb _ _ (large c))
 

@@ -7,11 +7,11 @@ use Rattle.bits.specs.declared.Order.the-variants.{Big}
 use Rattle.packing.specs.declared.State.{State}
 use Rattle.packing.specs.Packing.{Belongs, bitsWritten, put, putOut}
 use Rattle.writer.specs.Writer.{stateIn}
-use Rattle.writer.specs.AnswerLaws.{refused, answered}
+use Rattle.writer.proofs.AnswerLaws.{refused, answered}
 use Rattle.record.specs.Record.{recordBits}
 use Rattle.strip.specs.Bits.{bitsOf}
 use Rattle.strip.specs.Answers.{packOf, packOut}
-use Rattle.strip.specs.AnswerLaws.{pack-passed}
+use Rattle.strip.proofs.AnswerLaws.{pack-passed}
 use borrow.Author.Needs.{needs}
 use Rattle.strip.proofs.pack_record.Statement.{statement}
 use Rattle.strip.proofs.pack_record.Tie as tie

@@ -1,10 +1,10 @@
 -- `pack_strip` meets its contract: a refusal changes nothing, and what is not refused fits and has room (`strip-passed`). Assumes nothing.
 use mathlib.Core.Path.{sym, _∙_}
 use lib.ListN.{length}
-use Rattle.reader.specs.AnswerLaws.{if-refused, if-done, answer-refused, answer-done}
+use Rattle.bits.proofs.RefusalLaws.{if-refused, if-done, answer-refused, answer-done}
 use Rattle.strip.specs.Strip.{stripLength}
 use Rattle.strip.specs.Answers.{stripOf, packedOut}
-use Rattle.strip.specs.AnswerLaws.{packed, strip-passed}
+use Rattle.strip.proofs.AnswerLaws.{packed, strip-passed}
 use borrow.Author.Needs.{needs}
 use Rattle.strip.proofs.pack_strip.Statement.{statement}
 use Rattle.strip.proofs.pack_strip.Tie as tie

@@ -5,11 +5,11 @@ use mathlib.Core.Bool.{false}
 use Prim.Native.Nat.{_*_, _≤_}
 use native.Mathlib.Omega.{arith}
 use lib.ListN.{length}
-use Rattle.bits.specs.Refusals.{limit}
-use Rattle.reader.specs.AnswerLaws.{if-refused, if-done}
+use Rattle.bits.specs.Refusals.{longest}
+use Rattle.bits.proofs.RefusalLaws.{if-refused, if-done}
 use Rattle.strip.specs.Strip.{countOf}
 use Rattle.strip.specs.Answers.{listOf, listOut}
-use Rattle.strip.specs.AnswerLaws.{list-passed}
+use Rattle.strip.proofs.AnswerLaws.{list-passed}
 use borrow.Author.Needs.{needs}
 use Rattle.strip.proofs.read_strip.Statement.{statement}
 use Rattle.strip.proofs.read_strip.Tie as tie
@@ -20,7 +20,7 @@ list-refusal-requires c κs = search needs
 room :
     (c : tie.Else1) →
     let a = c .before .before .before .before .args in
-    (length (a .src .now) ≤ limit) × (6 * countOf (a .src .now) ≤ length (a .numbers .now))
+    (length (a .src .now) ≤ longest) × (6 * countOf (a .src .now) ≤ length (a .numbers .now))
 room c = let a = c .before .before .before .before .args in list-passed (a .src .now) (length (a .numbers .now)) (sym (c .before .list-refusal .ensures) ∙ c .if1 .left)
 
 returns : tie.Need-returns

@@ -1,7 +1,10 @@
 -- `list_text` meets its contract: a refusal changes nothing, and what is not refused has room (`list-passed`). Assumes nothing.
 use mathlib.Core.Path.{sym, _∙_}
 use lib.ListN.{length}
-use Rattle.text.specs.AnswerLaws.{list-passed, list-refused, list-done}
+use Rattle.bits.proofs.RefusalLaws.{if-refused, if-done, answer-refused, answer-done}
+use Rattle.text.specs.Text.{textOf}
+use Rattle.text.specs.Answers.{listOf, listOut}
+use Rattle.text.proofs.AnswerLaws.{listed, list-passed}
 use borrow.Author.Needs.{needs}
 use Rattle.text.proofs.list_text.Statement.{statement}
 use Rattle.text.proofs.list_text.Tie as tie
@@ -10,9 +13,10 @@ list-refusal-requires : tie.Need-list-refusal-requires
 list-refusal-requires c κs = search needs
 
 returns : tie.Need-returns
+unfolding listOf listOut
 returns c =
-    let a = c .before .before .before .before .args in
-    list-refused (a .strip .now) (a .out .now) (c .before .list-refusal .ensures) (c .if1 .taken)
+    let e = c .before .list-refusal .ensures in
+    (answer-refused e listed (length (textOf (c .before .before .before .before .args .strip .now))) 0 (c .if1 .taken), if-refused e _ _ (c .if1 .taken))
 
 put-text-requires : tie.Need-put-text-requires
 put-text-requires c κs =
@@ -24,11 +28,12 @@ same-length : tie.Need-same-length
 same-length c = search needs
 
 returns-2 : tie.Need-returns-2
+unfolding listOf listOut
 returns-2 c =
     let stored = c .before .before .put-text in
     let left = c .before .before .before .before in
-    let a = left .before .before .before .before .args in
-    list-done (a .strip .now) (a .out .now) (left .before .list-refusal .ensures) (left .if1 .left) (stored .ensures .0) (stored .ensures .1)
+    let e = left .before .list-refusal .ensures in
+    (answer-done e listed (length (textOf (left .before .before .before .before .args .strip .now))) 0 (left .if1 .left) (stored .ensures .0), stored .ensures .1 ∙ if-done e _ _ (left .if1 .left))
 
 pub list-text-spec : {M : Type 1} → statement M
 list-text-spec =

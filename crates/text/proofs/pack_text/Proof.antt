@@ -2,7 +2,7 @@
 use mathlib.Core.Path.{sym, ap, _∙_}
 use lib.ListN.{length}
 use Rattle.text.specs.declared.inner.Found.{Found}
-use Rattle.text.specs.AnswerLaws.{pack-passed, pack-refused, pack-done}
+use Rattle.text.proofs.AnswerLaws.{pack-passed, pack-refused, pack-done}
 use borrow.Author.Needs.{needs}
 use Rattle.text.proofs.pack_text.Statement.{statement}
 use Rattle.text.proofs.pack_text.Tie as tie

@@ -6,14 +6,14 @@ use mathlib.Core.List.{List}
 use native.Mathlib.Omega.{arith}
 use lib.ListN.{length, take}
 use lib.Seq.{length-sets}
-use Rattle.layout.specs.declared.inner.Size.{Size}
-use Rattle.layout.specs.Layout.{bytesOf}
-use Rattle.layout.specs.LayoutLaws.{length-bytes}
+use Rattle.layout.specs.declared.inner.size.Size.{Size}
+use Rattle.layout.specs.Bytes.{bytesOf}
+use Rattle.layout.proofs.LayoutLaws.{length-bytes}
 use Rattle.layout.specs.Check.{isPlan}
-use Rattle.layout.specs.Theorems.{plan-layout, bytes-items, bytes-layout}
+use Rattle.layout.proofs.Theorems.{plan-layout, bytes-items, bytes-layout}
 use Rattle.plan.specs.Run.{fieldsOf}
-use Rattle.plan.specs.RunLaws.{plan-few}
-use Rattle.plan.specs.ValueLaws.{front-take}
+use Rattle.plan.proofs.RunLaws.{plan-few}
+use Rattle.plan.proofs.ValueLaws.{front-take}
 use borrow.Author.Needs.{needs}
 use Rattle.bench.proofs.plans.fields.Statement.{statement}
 use Rattle.bench.proofs.plans.fields.Tie as tie

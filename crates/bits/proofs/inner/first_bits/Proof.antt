@@ -4,7 +4,7 @@ use Prim.Native.Nat.{ℕ, _≤_, _+_, _-_, _/_, _^_}
 use native.Mathlib.Omega.{arith}
 use lib.Pow.{pow-pos, shr-shr}
 use Rattle.bits.specs.Word.{first}
-use Rattle.bits.specs.WordLaws.{one-shl, mask-is}
+use Rattle.bits.proofs.WordLaws.{one-shl, mask-is}
 use borrow.Author.Needs.{needs}
 use Rattle.bits.proofs.inner.first_bits.Statement.{statement}
 use Rattle.bits.proofs.inner.first_bits.Tie as tie

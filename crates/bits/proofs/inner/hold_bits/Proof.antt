@@ -1,9 +1,8 @@
 -- `hold_bits` meets its contract: the double shift loses nothing, since n bits reach at most to the top. Assumes nothing.
-use mathlib.Core.Path.{sym}
 use native.Mathlib.Nat.{zero-mul, zero-add, add-zero}
 use Rattle.bits.specs.Field.{join}
 use Rattle.bits.specs.Word.{held}
-use Rattle.bits.specs.WordLaws.{to-the-top}
+use Rattle.bits.proofs.WordLaws.{to-the-top}
 use borrow.Author.Needs.{needs}
 use Rattle.bits.proofs.inner.hold_bits.Statement.{statement}
 use Rattle.bits.proofs.inner.hold_bits.Tie as tie

@@ -3,7 +3,7 @@ use mathlib.Core.Path.{sym, subst}
 use Prim.Native.Nat.{ℕ, _<_, _^_}
 use native.Mathlib.Omega.{arith}
 use Rattle.bits.specs.Field.{join}
-use Rattle.bits.specs.WordLaws.{above}
+use Rattle.bits.proofs.WordLaws.{above}
 use borrow.Author.Needs.{needs}
 use Rattle.bits.proofs.inner.join_bits.Statement.{statement}
 use Rattle.bits.proofs.inner.join_bits.Tie as tie

@@ -3,7 +3,7 @@ use mathlib.Core.Path.{sym, subst}
 use Prim.Native.Nat.{ℕ, _≤_}
 use lib.Pow.{pow-pos}
 use Rattle.bits.specs.Word.{rest}
-use Rattle.bits.specs.WordLaws.{one-shl, mask-is}
+use Rattle.bits.proofs.WordLaws.{one-shl, mask-is}
 use borrow.Author.Needs.{needs}
 use Rattle.bits.proofs.inner.last_part.Statement.{statement}
 use Rattle.bits.proofs.inner.last_part.Tie as tie

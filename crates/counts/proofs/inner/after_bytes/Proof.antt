@@ -5,8 +5,8 @@ use Prim.Native.Nat.{ℕ, _+_, _-_, _/_, _%_, _≤_}
 use native.Mathlib.Omega.{arith}
 use Rattle.counts.specs.declared.Counts.{Counts}
 use Rattle.counts.specs.Counts.{Within, afterEights}
-use Rattle.counts.specs.CountLaws.{Moved, refill-moved, moved-room}
-use Rattle.counts.specs.BytesLaws.{passed-le, bytes-held, bytes-beyond}
+use Rattle.counts.proofs.CountLaws.{Moved, refill-moved, moved-room}
+use Rattle.counts.proofs.BytesLaws.{passed-le, bytes-held, bytes-beyond}
 use borrow.Author.Needs.{needs}
 use Rattle.counts.proofs.inner.after_bytes.Statement.{statement}
 use Rattle.counts.proofs.inner.after_bytes.Tie as tie

@@ -5,7 +5,7 @@ use Prim.Native.Nat.{_≤_}
 use native.Mathlib.Omega.{arith}
 use Rattle.counts.specs.declared.Counts.{Counts}
 use Rattle.counts.specs.Counts.{afterTake}
-use Rattle.counts.specs.CountLaws.{refill-enough, read-held, read-refilled}
+use Rattle.counts.proofs.CountLaws.{refill-enough, read-held, read-refilled}
 use borrow.Author.Needs.{needs}
 use Rattle.counts.proofs.inner.after_eight.Statement.{statement}
 use Rattle.counts.proofs.inner.after_eight.Tie as tie

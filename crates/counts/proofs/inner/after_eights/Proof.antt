@@ -3,8 +3,8 @@ use mathlib.Core.Path.{_≡_, refl, sym, ap, _∙_, subst}
 use Prim.Native.Nat.{ℕ, _-_, _*_, _≤_}
 use native.Mathlib.Omega.{arith}
 use Rattle.counts.specs.Counts.{Within, bitsLeft, afterRead, afterEights}
-use Rattle.counts.specs.CountLaws.{Moved, read-moved, moved-room}
-use Rattle.counts.specs.BytesLaws.{eights-next}
+use Rattle.counts.proofs.CountLaws.{Moved, read-moved, moved-room}
+use Rattle.counts.proofs.BytesLaws.{eights-next}
 use Rattle.counts.proofs.inner.after_eights.Statement.{statement}
 use Rattle.counts.proofs.inner.after_eights.Tie as tie
 

@@ -2,7 +2,7 @@
 -- missing, what is answered stands for no part. Assumes nothing.
 use mathlib.Core.Path.{sym, _∙_}
 use native.Mathlib.Omega.{arith}
-use Rattle.digits.specs.PlaceLaws.{starts-within, next-low, next-within, stands-good, stands-open, stands-failed}
+use Rattle.digits.proofs.PlaceLaws.{starts-within, next-low, next-within, stands-good, stands-open, stands-failed}
 use Rattle.digits.proofs.inner.close.Statement.{statement}
 use Rattle.digits.proofs.inner.close.Tie as tie
 

@@ -2,7 +2,7 @@
 -- Assumes nothing.
 use borrow.Author.Needs.{needs}
 use Rattle.digits.specs.Reading.{decimalsAt}
-use Rattle.digits.specs.PlaceLaws.{next-low, count-is}
+use Rattle.digits.proofs.PlaceLaws.{next-low, count-is}
 use Rattle.digits.proofs.inner.decimals_at.Statement.{statement}
 use Rattle.digits.proofs.inner.decimals_at.Tie as tie
 

@@ -2,7 +2,7 @@
 use mathlib.Core.Path.{sym}
 use native.Mathlib.Omega.{arith}
 use borrow.Author.Needs.{needs}
-use Rattle.digits.specs.PlaceLaws.{next-within, whole-zero, whole-other, whole-none}
+use Rattle.digits.proofs.PlaceLaws.{next-within, whole-zero, whole-other, whole-none}
 use Rattle.digits.proofs.inner.is_whole.Statement.{statement}
 use Rattle.digits.proofs.inner.is_whole.Tie as tie
 

@@ -1,6 +1,6 @@
 -- `one_more` meets its contract: a digit is at least the byte of 0, and ten times a bounded value and a digit more fit. Assumes nothing.
 use borrow.Author.Needs.{needs}
-use Rattle.digits.specs.RunLaws.{is-digit}
+use Rattle.digits.proofs.RunLaws.{is-digit}
 use Rattle.digits.proofs.inner.one_more.Statement.{statement}
 use Rattle.digits.proofs.inner.one_more.Tie as tie
 

@@ -4,7 +4,7 @@ use mathlib.Core.Path.{refl, sym, _∙_}
 use Prim.Native.Nat.{_-_}
 use native.Mathlib.Omega.{arith}
 use lib.ListN.{length}
-use Rattle.digits.specs.PlaceLaws.{Left, left-next, left-stop, left-end}
+use Rattle.digits.proofs.PlaceLaws.{Left, left-next, left-stop, left-end}
 use Rattle.digits.proofs.inner.run_at.Statement.{statement}
 use Rattle.digits.proofs.inner.run_at.Tie as tie
 

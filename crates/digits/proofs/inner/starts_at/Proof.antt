@@ -1,7 +1,7 @@
 -- `starts_at` meets its contract: the text from a place on begins with the byte there, and past the end with none. Assumes nothing.
 use mathlib.Core.Path.{sym}
 use borrow.Author.Needs.{needs}
-use Rattle.digits.specs.PlaceLaws.{starts-in, starts-out}
+use Rattle.digits.proofs.PlaceLaws.{starts-in, starts-out}
 use Rattle.digits.proofs.inner.starts_at.Statement.{statement}
 use Rattle.digits.proofs.inner.starts_at.Tie as tie
 

@@ -3,8 +3,8 @@ use lib.ListN.{drop}
 use native.Mathlib.Omega.{arith}
 use borrow.Author.Needs.{needs}
 use Rattle.digits.specs.Digits.{comma, point}
-use Rattle.digits.specs.PartLaws.{whole-small, decimals-few}
-use Rattle.line.specs.PlaceLaws.{date-stands}
+use Rattle.digits.proofs.PartLaws.{whole-small, decimals-few}
+use Rattle.line.proofs.PlaceLaws.{date-stands}
 use Rattle.line.proofs.inner.date_at.Statement.{statement}
 use Rattle.line.proofs.inner.date_at.Tie as tie
 

@@ -2,12 +2,12 @@
 -- (`six-stand`); whether they fit decides the answer. Assumes nothing.
 use mathlib.Core.Path.{sym, _∙_}
 use borrow.Author.Needs.{needs}
-use Rattle.line.specs.PlaceLaws.{SixStand, six-stand}
-use Rattle.line.specs.AnswerLaws.{stands-line, stands-none}
+use Rattle.line.proofs.PlaceLaws.{SixStand, six-stand}
+use Rattle.line.proofs.AnswerLaws.{stands-line, stands-none}
 use Rattle.line.proofs.inner.line_at.Statement.{statement}
 use Rattle.line.proofs.inner.line_at.Tie as tie
 
-six : (c : tie.After-all-fit) →
+six : (c : tie.After-six-fit) →
     let f = c .before in
     let e = f .before in
     let d = e .before in
@@ -47,16 +47,16 @@ thousandths-at-requires c κs = search needs
 whole-at-requires-3 : tie.Need-whole-at-requires-3
 whole-at-requires-3 c κs = search needs
 
-all-fit-requires : tie.Need-all-fit-requires
-all-fit-requires c κs = search needs
+six-fit-requires : tie.Need-six-fit-requires
+six-fit-requires c κs = search needs
 
 record-of-requires : tie.Need-record-of-requires
-record-of-requires c κs = sym (c .before .all-fit .ensures) ∙ c .if1 .taken
+record-of-requires c κs = sym (c .before .six-fit .ensures) ∙ c .if1 .taken
 
 returns : tie.Need-returns
 returns c =
     let t = c .before .before in
-    stands-line _ _ _ _ _ _ _ _ (six t) (sym (t .all-fit .ensures) ∙ c .before .if1 .taken) (c .record-of .ensures)
+    stands-line _ _ _ _ _ _ _ _ (six t) (sym (t .six-fit .ensures) ∙ c .before .if1 .taken) (c .record-of .ensures)
 
 no-record-requires : tie.Need-no-record-requires
 no-record-requires c κs = search needs
@@ -64,7 +64,7 @@ no-record-requires c κs = search needs
 returns-2 : tie.Need-returns-2
 returns-2 c =
     let t = c .before .before in
-    stands-none _ _ _ _ _ _ _ _ (six t) (sym (t .all-fit .ensures) ∙ c .before .if1 .left) (c .no-record .ensures)
+    stands-none _ _ _ _ _ _ _ _ (six t) (sym (t .six-fit .ensures) ∙ c .before .if1 .left) (c .no-record .ensures)
 
 pub line-at-spec : {M : Type 1} → statement M
 line-at-spec =
@@ -76,7 +76,7 @@ line-at-spec =
     magnitude-at-requires
     thousandths-at-requires
     whole-at-requires-3
-    all-fit-requires
+    six-fit-requires
     record-of-requires
     returns
     no-record-requires

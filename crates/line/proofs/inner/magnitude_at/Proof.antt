@@ -1,12 +1,11 @@
--- `magnitude_at` meets its contract: behind a minus the number is read one byte on, and its distance goes down from the middle
--- (`minus-stands`); with none it goes up (`plus-stands`). Assumes nothing.
+-- `magnitude_at` meets its contract: behind a minus the number is read one byte on and taken below zero (`minus-stands`); with none it
+-- stays as it is (`plus-stands`). Assumes nothing.
 use mathlib.Core.Path.{sym, _∙_}
-use lib.ListN.{drop}
 use native.Mathlib.Omega.{arith}
 use borrow.Author.Needs.{needs}
 use Rattle.digits.specs.Digits.{minus}
-use Rattle.digits.specs.PlaceLaws.{starts-within}
-use Rattle.line.specs.PlaceLaws.{thousandths-small, minus-stands, plus-stands}
+use Rattle.digits.proofs.PlaceLaws.{starts-within}
+use Rattle.line.proofs.PlaceLaws.{minus-stands, plus-stands}
 use Rattle.line.proofs.inner.magnitude_at.Statement.{statement}
 use Rattle.line.proofs.inner.magnitude_at.Tie as tie
 
@@ -35,18 +34,11 @@ returns c =
 thousandths-at-requires-2 : tie.Need-thousandths-at-requires-2
 thousandths-at-requires-2 c κs = search needs
 
-add-t8 : tie.Need-add-t8
-add-t8 c =
-    let a = c .before .before .before .before .before .args in
-    let b = thousandths-small (drop (a .at) (a .src .now)) in
-    let e = c .before .thousandths-at2 .ensures .value in
-    omega arith
-
 returns-2 : tie.Need-returns-2
 returns-2 c =
-    let a = c .before .before .before .before .before .args in
-    let m = c .before .thousandths-at2 in
-    plus-stands (a .src .now) (a .at) (m .result) (sym (c .before .before .before .starts-at .ensures) ∙ c .before .before .if1 .left) (m .ensures)
+    let a = c .before .before .before .before .args in
+    let m = c .thousandths-at2 in
+    plus-stands (a .src .now) (a .at) (m .result) (sym (c .before .before .starts-at .ensures) ∙ c .before .if1 .left) (m .ensures)
 
 pub magnitude-at-spec : {M : Type 1} → statement M
 magnitude-at-spec =
@@ -58,5 +50,4 @@ magnitude-at-spec =
     below-zero-requires
     returns
     thousandths-at-requires-2
-    add-t8
     returns-2)

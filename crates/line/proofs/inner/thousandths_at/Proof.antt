@@ -4,8 +4,8 @@ use lib.ListN.{drop}
 use native.Mathlib.Omega.{arith}
 use borrow.Author.Needs.{needs}
 use Rattle.digits.specs.Digits.{comma, point}
-use Rattle.digits.specs.PartLaws.{whole-small, decimals-few}
-use Rattle.line.specs.PlaceLaws.{thousandths-stands}
+use Rattle.digits.proofs.PartLaws.{whole-small, decimals-few}
+use Rattle.line.proofs.PlaceLaws.{thousandths-stands}
 use Rattle.line.proofs.inner.thousandths_at.Statement.{statement}
 use Rattle.line.proofs.inner.thousandths_at.Tie as tie
 

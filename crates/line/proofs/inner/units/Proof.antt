@@ -3,7 +3,8 @@ use mathlib.Core.Path.{sym}
 use native.Mathlib.Nat.{div-le-self}
 use native.Mathlib.Omega.{arith}
 use borrow.Author.Needs.{needs}
-use Rattle.line.specs.Date.{unitsOf, units-five}
+use Rattle.line.specs.Date.{unitsOf}
+use Rattle.line.proofs.DateLaws.{units-five}
 use Rattle.line.proofs.inner.units.Statement.{statement}
 use Rattle.line.proofs.inner.units.Tie as tie
 

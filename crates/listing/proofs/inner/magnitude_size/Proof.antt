@@ -11,7 +11,7 @@ use mir.ValLaws.{toZ-ofZ}
 use borrow.Author.Needs.{needs}
 use Rattle.print.specs.Print.{places}
 use Rattle.listing.specs.Listing.{isNegative}
-use Rattle.listing.specs.PieceLaws.{one-or-none}
+use Rattle.listing.proofs.PieceLaws.{one-or-none}
 use Rattle.listing.proofs.inner.magnitude_size.Statement.{statement}
 use Rattle.listing.proofs.inner.magnitude_size.Tie as tie
 

@@ -11,7 +11,7 @@ use borrow.Author.Needs.{needs}
 use Rattle.line.specs.Date.{day}
 use Rattle.print.specs.Print.{places}
 use Rattle.listing.specs.Listing.{magnitudeSize}
-use Rattle.listing.specs.PieceLaws.{magnitudeOf, line-put}
+use Rattle.listing.proofs.PieceLaws.{magnitudeOf, line-put}
 use Rattle.listing.proofs.inner.put_line.Statement.{statement}
 use Rattle.listing.proofs.inner.put_line.Tie as tie
 

@@ -11,7 +11,7 @@ use borrow.Author.Needs.{needs}
 use Rattle.digits.specs.Digits.{minus}
 use Rattle.print.specs.Print.{places}
 use Rattle.listing.specs.Listing.{isNegative, magnitudeSize}
-use Rattle.listing.specs.PieceLaws.{minus-store, plus-store}
+use Rattle.listing.proofs.PieceLaws.{minus-store, plus-store}
 use Rattle.listing.proofs.inner.put_magnitude.Statement.{statement}
 use Rattle.listing.proofs.inner.put_magnitude.Tie as tie
 

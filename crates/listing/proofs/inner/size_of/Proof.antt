@@ -7,7 +7,7 @@ use lib.Signed.{mag}
 use mir.Syntax.{w16}
 use mir.Val.{toZ, ofZ}
 use mir.ValLaws.{toZ-ofZ}
-use Rattle.sign.specs.FlipLaws.{complement, complement-fits, complement-read, negative, nonnegative}
+use Rattle.sign.proofs.FlipLaws.{complement, complement-fits, complement-read, negative, nonnegative}
 use Rattle.listing.proofs.inner.size_of.Statement.{statement}
 use Rattle.listing.proofs.inner.size_of.Tie as tie
 

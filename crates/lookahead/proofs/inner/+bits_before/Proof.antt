@@ -1,13 +1,13 @@
 -- `bits_before` meets its contract: the last bits of a byte, or the byte behind what the call gives, which is on eight bits less. Assumes nothing.
 use mathlib.Core.Path.{_≡_, refl, ap, ap₂, _∙_}
-use Prim.Native.Nat.{ℕ, _+_, _-_, _*_, _<_, _≤_}
+use Prim.Native.Nat.{ℕ, _+_, _-_, _*_, _<_}
 use native.Mathlib.Omega.{arith}
 use borrow.Fn.Kinds.{In, Out}
 use borrow.Fn.PlainCycle.{Measures, is, falls, and}
 use lib.ListN.{getD}
 use Rattle.bits.specs.Field.{join, field}
-use Rattle.bits.specs.FieldLaws.{field-lt}
-use Rattle.lookahead.specs.StateLaws.{last-bits, byte-behind}
+use Rattle.bits.proofs.FieldLaws.{field-lt}
+use Rattle.lookahead.proofs.StateLaws.{last-bits, byte-behind}
 use Rattle.lookahead.proofs.inner.bits_before.Reads as bits-before
 use Rattle.lookahead.proofs.inner.bits_before.Kinds as bits-before-kinds
 use Rattle.lookahead.proofs.inner.+bits_before.Lts-bits_before as bits-before-lts

@@ -1,7 +1,7 @@
 -- `consume` meets its contract: the register without its first bits is that of the counts after the take (`consumed`). Assumes nothing.
 use mathlib.Core.Path.{_∙_}
 use Prim.Native.Nat.{_-_}
-use Rattle.lookahead.specs.StateLaws.{consumed}
+use Rattle.lookahead.proofs.StateLaws.{consumed}
 use borrow.Author.Needs.{needs}
 use Rattle.lookahead.proofs.inner.consume.Statement.{statement}
 use Rattle.lookahead.proofs.inner.consume.Tie as tie

@@ -3,7 +3,6 @@ use Prim.Native.Nat.{_+_, _<_, _≤_}
 use native.Mathlib.Omega.{arith}
 use borrow.Author.Tests.{le-leb, lt-leb}
 use Rattle.lookahead.specs.State.{inside}
-use borrow.Author.Needs.{needs}
 use Rattle.lookahead.proofs.inner.inside.Statement.{statement}
 use Rattle.lookahead.proofs.inner.inside.Tie as tie
 

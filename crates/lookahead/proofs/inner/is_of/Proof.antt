@@ -5,7 +5,7 @@ use lib.Dec.{eqb}
 use borrow.Author.Tests.{le-leb, lt-leb}
 use Rattle.counts.specs.Counts.{Within}
 use Rattle.lookahead.specs.State.{belongs, countsOf}
-use Rattle.lookahead.specs.StateLaws.{belongs-register}
+use Rattle.lookahead.proofs.StateLaws.{belongs-register}
 use borrow.Author.Needs.{needs}
 use Rattle.lookahead.proofs.inner.is_of.Statement.{statement}
 use Rattle.lookahead.proofs.inner.is_of.Tie as tie

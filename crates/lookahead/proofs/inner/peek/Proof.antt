@@ -1,6 +1,6 @@
 -- `peek` meets its contract: the first bits of the register are the first of the field that it holds (`peeked`). Assumes nothing.
 use mathlib.Core.Path.{_∙_}
-use Rattle.lookahead.specs.StateLaws.{peeked}
+use Rattle.lookahead.proofs.StateLaws.{peeked}
 use borrow.Author.Needs.{needs}
 use Rattle.lookahead.proofs.inner.peek.Statement.{statement}
 use Rattle.lookahead.proofs.inner.peek.Tie as tie

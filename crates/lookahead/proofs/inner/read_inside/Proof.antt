@@ -1,12 +1,10 @@
 -- `read_inside` meets its contract: as `read_short`, since 64 bits are there. Assumes nothing.
-use mathlib.Core.Path.{_≡_}
 use native.Mathlib.Omega.{arith}
 use lib.ListN.{length}
 use lib.Dec.{ltb}
-use Rattle.counts.specs.Counts.{refillIf}
-use Rattle.counts.specs.CountLaws.{if-within, short-enough}
-use Rattle.lookahead.specs.State.{countsOf, stateOf}
-use Rattle.lookahead.specs.StateLaws.{is-ready, is-took, short-read, inside-is}
+use Rattle.counts.proofs.CountLaws.{if-within, short-enough}
+use Rattle.lookahead.specs.State.{countsOf}
+use Rattle.lookahead.proofs.StateLaws.{is-ready, is-took, short-read, inside-is}
 use borrow.Author.Needs.{needs}
 use Rattle.lookahead.proofs.inner.read_inside.Statement.{statement}
 use Rattle.lookahead.proofs.inner.read_inside.Tie as tie

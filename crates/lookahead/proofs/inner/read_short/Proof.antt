@@ -3,9 +3,9 @@ use mathlib.Core.Path.{_≡_}
 use lib.ListN.{length}
 use lib.Dec.{ltb}
 use Rattle.counts.specs.Counts.{refillIf}
-use Rattle.counts.specs.CountLaws.{if-within, short-enough}
+use Rattle.counts.proofs.CountLaws.{if-within, short-enough}
 use Rattle.lookahead.specs.State.{countsOf, stateOf}
-use Rattle.lookahead.specs.StateLaws.{is-ready, is-took, short-read}
+use Rattle.lookahead.proofs.StateLaws.{is-ready, is-took, short-read}
 use borrow.Author.Needs.{needs}
 use Rattle.lookahead.proofs.inner.read_short.Statement.{statement}
 use Rattle.lookahead.proofs.inner.read_short.Tie as tie

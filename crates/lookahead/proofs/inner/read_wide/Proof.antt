@@ -5,12 +5,12 @@ use Prim.Native.Nat.{ℕ, _-_, _<_, _^_}
 use mathlib.Core.List.{List}
 use lib.ListN.{length}
 use Rattle.bits.specs.declared.Order.{Order}
-use Rattle.bits.specs.FieldLaws.{field-lt}
+use Rattle.bits.proofs.FieldLaws.{field-lt}
 use Rattle.counts.specs.declared.Counts.{Counts}
 use Rattle.counts.specs.Counts.{place}
-use Rattle.counts.specs.CountLaws.{wide₁, wide₂, wide-within₁, wide-within₂, wide-within₃, wide-enough, wide-rest}
+use Rattle.counts.proofs.CountLaws.{wide₁, wide₂, wide-within₁, wide-within₂, wide-within₃, wide-enough, wide-rest}
 use Rattle.lookahead.specs.State.{countsOf, stateOf}
-use Rattle.lookahead.specs.StateLaws.{Took, is-belongs, is-ready, is-took, is-refilled, wide-read}
+use Rattle.lookahead.proofs.StateLaws.{Took, is-belongs, is-ready, is-took, is-refilled, wide-read}
 use borrow.Author.Needs.{needs}
 use Rattle.lookahead.proofs.inner.read_wide.Statement.{statement}
 use Rattle.lookahead.proofs.inner.read_wide.Tie as tie

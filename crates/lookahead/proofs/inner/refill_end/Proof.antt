@@ -2,7 +2,7 @@
 use mathlib.Core.Path.{sym, ap, _∙_, subst}
 use lib.ListN.{length}
 use Rattle.counts.specs.Counts.{Within}
-use Rattle.counts.specs.CountLaws.{refill-within}
+use Rattle.counts.proofs.CountLaws.{refill-within}
 use Rattle.lookahead.specs.State.{stateOf}
 use borrow.Author.Needs.{needs}
 use Rattle.lookahead.proofs.inner.refill_end.Statement.{statement}

@@ -1,5 +1,5 @@
 -- `refill_if` meets its contract: without a refill the state stays, which is the one with its counts (`belongs-is`). Assumes nothing.
-use Rattle.lookahead.specs.StateLaws.{belongs-is}
+use Rattle.lookahead.proofs.StateLaws.{belongs-is}
 use borrow.Author.Needs.{needs}
 use Rattle.lookahead.proofs.inner.refill_if.Statement.{statement}
 use Rattle.lookahead.proofs.inner.refill_if.Tie as tie

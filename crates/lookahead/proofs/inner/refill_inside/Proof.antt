@@ -1,13 +1,13 @@
 -- `refill_inside` meets its contract: the counts are those after a refill (`inside-counts`), and the register goes with them (`full-register`). Assumes nothing.
 use mathlib.Core.Path.{_≡_, ap, _∙_}
-use Prim.Native.Nat.{ℕ, _+_, _-_, _*_, _/_, _%_, _≤_}
+use Prim.Native.Nat.{_+_, _-_, _/_, _%_}
 use native.Mathlib.Omega.{arith}
 use lib.ListN.{length}
 use Rattle.bits.specs.Word.{skipped}
 use Rattle.counts.specs.declared.Counts.{Counts}
 use Rattle.counts.specs.Counts.{Within}
 use Rattle.lookahead.specs.State.{registerOf, stateOf}
-use Rattle.lookahead.specs.StateLaws.{full-register, inside-counts}
+use Rattle.lookahead.proofs.StateLaws.{full-register, inside-counts}
 use borrow.Author.Needs.{needs}
 use Rattle.lookahead.proofs.inner.refill_inside.Statement.{statement}
 use Rattle.lookahead.proofs.inner.refill_inside.Tie as tie

@@ -1,9 +1,8 @@
 -- `register_behind` meets its contract: the last bits of eight whole bytes (`far-register`). Assumes nothing.
 use mathlib.Core.Path.{ap, _∙_}
 use Prim.Native.Nat.{_-_}
-use native.Mathlib.Omega.{arith}
 use Rattle.bits.specs.Word.{skipped}
-use Rattle.lookahead.specs.StateLaws.{far-register}
+use Rattle.lookahead.proofs.StateLaws.{far-register}
 use borrow.Author.Needs.{needs}
 use Rattle.lookahead.proofs.inner.register_behind.Statement.{statement}
 use Rattle.lookahead.proofs.inner.register_behind.Tie as tie

@@ -1,11 +1,11 @@
 -- `register_end` meets its contract: all of a slice is the slice (`take-length`), and the bits before the offset are held. Assumes nothing.
 use mathlib.Core.Path.{_≡_, sym, ap, _∙_, subst}
-use Prim.Native.Nat.{ℕ, _-_, _*_, _≤_, _<_, _^_}
+use Prim.Native.Nat.{ℕ, _-_, _≤_, _<_, _^_}
 use mathlib.Core.List.{List}
 use lib.ListN.{length}
 use lib.Seq.{take-length}
 use Rattle.bits.specs.Field.{field}
-use Rattle.bits.specs.FieldLaws.{field-lt}
+use Rattle.bits.proofs.FieldLaws.{field-lt}
 use Rattle.bits.specs.Word.{held}
 use Rattle.counts.specs.Counts.{place}
 use Rattle.lookahead.specs.State.{registerOf}

@@ -1,13 +1,13 @@
 -- `top_up` meets its contract: it refills exactly if the lookahead is too short, and eight bytes are there on both sides. Assumes nothing.
 use mathlib.Core.Path.{sym, ap, _∙_}
-use Prim.Native.Nat.{_+_, _-_, _/_, _≤_}
+use Prim.Native.Nat.{_-_}
 use mathlib.Core.Bool.{Bool}
 use native.Mathlib.Omega.{arith}
 use lib.ListN.{length}
 use borrow.Author.Tests.{lt-ltb, le-ltb}
 use Rattle.counts.specs.Counts.{refillIf}
 use Rattle.lookahead.specs.State.{countsOf, stateOf}
-use Rattle.lookahead.specs.StateLaws.{inside-is, belongs-is}
+use Rattle.lookahead.proofs.StateLaws.{inside-is, belongs-is}
 use Rattle.lookahead.proofs.inner.top_up.Statement.{statement}
 use Rattle.lookahead.proofs.inner.top_up.Tie as tie
 

@@ -4,7 +4,7 @@ use mathlib.Core.Path.{_≡_}
 use Prim.Native.Nat.{ℕ, _+_, _*_, _/_, _%_, _^_, _<_}
 use native.Mathlib.Omega.{arith}
 use lib.ListN.{getD}
-use Rattle.octets.specs.OctetsLaws.{octets-bytes}
+use Rattle.octets.proofs.OctetsLaws.{octets-bytes}
 use borrow.Author.Needs.{needs}
 use Rattle.octets.proofs.inner.bytes_at.Statement.{statement}
 use Rattle.octets.proofs.inner.bytes_at.Tie as tie

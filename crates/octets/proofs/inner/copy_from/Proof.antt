@@ -3,7 +3,7 @@ use mathlib.Core.Path.{refl}
 use Prim.Native.Nat.{_+_, _-_}
 use native.Mathlib.Omega.{arith}
 use lib.ListN.{length, getD, length-set}
-use Rattle.octets.specs.FirstsLaws.{Upto, upto-none, upto-next, upto-all}
+use Rattle.octets.proofs.FirstsLaws.{Upto, upto-none, upto-next, upto-all}
 use Rattle.octets.proofs.inner.copy_from.Statement.{statement}
 use Rattle.octets.proofs.inner.copy_from.Tie as tie
 

@@ -6,8 +6,8 @@ use native.Mathlib.Omega.{arith}
 use lib.ListN.{length, getD}
 use Rattle.bits.specs.Field.{field}
 use Rattle.octets.specs.Octets.{octets, byOrder, straddled}
-use Rattle.octets.specs.FirstsLaws.{firsts-same}
-use Rattle.octets.specs.OctetsLaws.{either-way, straddled-field}
+use Rattle.octets.proofs.FirstsLaws.{firsts-same}
+use Rattle.octets.proofs.OctetsLaws.{either-way, straddled-field}
 use borrow.Author.Needs.{needs}
 use Rattle.octets.proofs.inner.read_n_bytes.Statement.{statement}
 use Rattle.octets.proofs.inner.read_n_bytes.Tie as tie

@@ -1,6 +1,6 @@
 -- `straddle` meets its contract: the shifted parts of the two bytes have no bit in common, so `^` adds them (`straddled-is`). Assumes nothing.
 use native.Mathlib.Omega.{arith}
-use Rattle.octets.specs.OctetsLaws.{straddled-is}
+use Rattle.octets.proofs.OctetsLaws.{straddled-is}
 use borrow.Author.Needs.{needs}
 use Rattle.octets.proofs.inner.straddle.Statement.{statement}
 use Rattle.octets.proofs.inner.straddle.Tie as tie

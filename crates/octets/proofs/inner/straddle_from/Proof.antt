@@ -4,7 +4,7 @@ use native.Mathlib.Omega.{arith}
 use mathlib.Core.List.{List}
 use lib.ListN.{length, getD, length-set}
 use Rattle.octets.specs.Octets.{straddled}
-use Rattle.octets.specs.FirstsLaws.{Upto, upto-none, upto-next, upto-all}
+use Rattle.octets.proofs.FirstsLaws.{Upto, upto-none, upto-next, upto-all}
 use Rattle.octets.proofs.inner.straddle_from.Statement.{statement}
 use Rattle.octets.proofs.inner.straddle_from.Tie as tie
 

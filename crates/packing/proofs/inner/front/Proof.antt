@@ -7,8 +7,8 @@ use Rattle.bits.specs.declared.Order.{Order}
 use Rattle.bits.specs.declared.Order.the-variants.{Little, Big}
 use Rattle.words.specs.Eight.{swapped}
 use Rattle.packing.specs.Packing.{bytesOf, gathered, full, over}
-use Rattle.packing.specs.EightBytesLaws.{first-swapped}
-use Rattle.packing.specs.FrontLaws.{frontWord, front-lt, front-bytes, front-little, front-big}
+use Rattle.packing.proofs.EightBytesLaws.{first-swapped}
+use Rattle.packing.proofs.FrontLaws.{frontWord, front-lt, front-bytes, front-little, front-big}
 use borrow.Author.Needs.{needs}
 use Rattle.packing.proofs.inner.front.Statement.{statement}
 use Rattle.packing.proofs.inner.front.Tie as tie

@@ -3,9 +3,9 @@ use mathlib.Core.Path.{sym, ap, _∙_}
 use Prim.Native.Nat.{_*_, _<_, _≤_}
 use native.Mathlib.Omega.{arith}
 use lib.Dec.{ltb}
-use Rattle.bits.specs.WordLaws.{one-shl}
+use Rattle.bits.proofs.WordLaws.{one-shl}
 use Rattle.packing.specs.Packing.{bitsWritten}
-use Rattle.packing.specs.BelongsLaws.{many-held, past-the-end, belongs-if-small}
+use Rattle.packing.proofs.BelongsLaws.{many-held, past-the-end, belongs-if-small}
 use borrow.Author.Needs.{needs}
 use Rattle.packing.proofs.inner.is_of.Statement.{statement}
 use Rattle.packing.proofs.inner.is_of.Tie as tie

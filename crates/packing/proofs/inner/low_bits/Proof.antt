@@ -4,7 +4,7 @@ use Prim.Native.Nat.{ℕ, _≤_}
 use native.Mathlib.Nat.{mod-eq-of-lt}
 use native.Mathlib.Omega.{arith}
 use lib.Pow.{pow-pos}
-use Rattle.bits.specs.WordLaws.{one-shl, mask-is}
+use Rattle.bits.proofs.WordLaws.{one-shl, mask-is}
 use borrow.Author.Needs.{needs}
 use Rattle.packing.proofs.inner.low_bits.Statement.{statement}
 use Rattle.packing.proofs.inner.low_bits.Tie as tie

@@ -5,8 +5,8 @@ use Prim.Native.Nat.{_+_, _≤_}
 use native.Mathlib.Omega.{arith}
 use lib.Seq.{sets}
 use Rattle.packing.specs.Packing.{full, over, put, putOut}
-use Rattle.packing.specs.PutLaws.{put-held, put-held-out}
-use Rattle.packing.specs.FrontLaws.{front-over}
+use Rattle.packing.proofs.PutLaws.{put-held, put-held-out}
+use Rattle.packing.proofs.FrontLaws.{front-over}
 use borrow.Author.Needs.{needs}
 use Rattle.packing.proofs.inner.put_bits.Statement.{statement}
 use Rattle.packing.proofs.inner.put_bits.Tie as tie

@@ -4,7 +4,7 @@ use mathlib.Core.Path.{_≡_, sym, _∙_, subst}
 use Prim.Native.Nat.{ℕ, _^_, _<_}
 use native.Mathlib.Omega.{arith}
 use lib.ListN.{getD}
-use Rattle.packing.specs.PutBytesLaws.{bytes-aligned, bytes-aligned-out}
+use Rattle.packing.proofs.PutBytesLaws.{bytes-aligned, bytes-aligned-out}
 use borrow.Author.Needs.{needs}
 use Rattle.packing.proofs.inner.put_bytes.Statement.{statement}
 use Rattle.packing.proofs.inner.put_bytes.Tie as tie

@@ -7,8 +7,8 @@ use mathlib.Core.List.{List}
 use lib.ListN.{length}
 use Rattle.packing.specs.declared.State.{State}
 use Rattle.packing.specs.Packing.{bitsWritten, Belongs}
-use Rattle.packing.specs.StretchLaws.{Stretch, stretch-none, stretch-byte, stretch-word, stretch-length, stretch-next, stretch-join}
-use Rattle.packing.specs.PutBytesLaws.{stretch-all}
+use Rattle.packing.proofs.StretchLaws.{Stretch, stretch-none, stretch-byte, stretch-word, stretch-length, stretch-next, stretch-join}
+use Rattle.packing.proofs.PutBytesLaws.{stretch-all}
 use Rattle.packing.proofs.inner.put_shifted.Statement.{statement}
 use Rattle.packing.proofs.inner.put_shifted.Tie as tie
 

@@ -7,7 +7,7 @@ use lib.Seq.{sets}
 use Rattle.bits.specs.Field.{join}
 use Rattle.bits.specs.Word.{first}
 use Rattle.packing.specs.Packing.{bytesOf}
-use Rattle.packing.specs.PutWordLaws.{front-lt, word-bytes, word-over}
+use Rattle.packing.proofs.PutWordLaws.{front-lt, word-bytes, word-over}
 use borrow.Author.Needs.{needs}
 use Rattle.packing.proofs.inner.put_word.Statement.{statement}
 use Rattle.packing.proofs.inner.put_word.Tie as tie

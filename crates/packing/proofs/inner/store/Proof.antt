@@ -7,7 +7,7 @@ use lib.Seq.{sets}
 use Rattle.bits.specs.declared.Order.the-variants.{Little}
 use Rattle.bits.specs.Word.{first, skipped}
 use Rattle.packing.specs.Packing.{bytesOf}
-use Rattle.packing.specs.HeldLaws.{store-step}
+use Rattle.packing.proofs.HeldLaws.{store-step}
 use Rattle.packing.proofs.inner.store.Statement.{statement}
 use Rattle.packing.proofs.inner.store.Tie as tie
 

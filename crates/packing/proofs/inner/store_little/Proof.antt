@@ -2,7 +2,7 @@
 use native.Mathlib.Numerals.{unary-clauses}
 use native.Mathlib.Omega.{arith}
 use lib.ListN.{length-set}
-use Rattle.packing.specs.EightBytesLaws.{bytes-little}
+use Rattle.packing.proofs.EightBytesLaws.{bytes-little}
 use borrow.Author.Needs.{needs}
 use Rattle.packing.proofs.inner.store_little.Statement.{statement}
 use Rattle.packing.proofs.inner.store_little.Tie as tie

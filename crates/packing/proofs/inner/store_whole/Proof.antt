@@ -4,7 +4,7 @@ use mathlib.Core.Path.{ap, _∙_}
 use lib.Seq.{sets}
 use Rattle.bits.specs.declared.Order.the-variants.{Little}
 use Rattle.packing.specs.Packing.{bytesOf}
-use Rattle.packing.specs.EightBytesLaws.{bytes-swapped}
+use Rattle.packing.proofs.EightBytesLaws.{bytes-swapped}
 use borrow.Author.Needs.{needs}
 use Rattle.packing.proofs.inner.store_whole.Statement.{statement}
 use Rattle.packing.proofs.inner.store_whole.Tie as tie

@@ -4,7 +4,7 @@ use Prim.Native.Nat.{ℕ, _+_, _-_, _/_, _^_, _≤_}
 use native.Mathlib.Omega.{arith}
 use lib.Pow.{pow-pos, shr-shr}
 use Rattle.bits.specs.Word.{rest}
-use Rattle.bits.specs.WordLaws.{one-shl, mask-is}
+use Rattle.bits.proofs.WordLaws.{one-shl, mask-is}
 use borrow.Author.Needs.{needs}
 use Rattle.packing.proofs.inner.tail.Statement.{statement}
 use Rattle.packing.proofs.inner.tail.Tie as tie

@@ -5,8 +5,8 @@ use mathlib.Core.List.{_∷_}
 use native.Mathlib.Nat.{zero-add}
 use native.Mathlib.Omega.{arith}
 use lib.ListN.{length, drop, getD}
-use Rattle.layout.specs.StepLaws.{plan-whole}
-use Rattle.plan.specs.RunLaws.{plan-few}
+use Rattle.layout.proofs.StepLaws.{plan-whole}
+use Rattle.plan.proofs.RunLaws.{plan-few}
 use Rattle.plan.proofs.Decoding.{Left, width, room, next, at-index, at-end}
 use borrow.Author.Needs.{needs}
 use Rattle.plan.proofs.inner.decode.Statement.{statement}

@@ -5,10 +5,10 @@ use mathlib.Core.Bool.{true}
 use mathlib.Core.List.{[], _∷_}
 use native.Mathlib.Omega.{arith}
 use lib.ListN.{length, drop, getD}
-use Rattle.bits.specs.FieldLaws.{field-lt}
+use Rattle.bits.proofs.FieldLaws.{field-lt}
 use borrow.Author.Tests.{leb-true}
 use Rattle.layout.specs.Layout.{item, itemsOf, goodItems, bitsOf}
-use Rattle.layout.specs.LayoutLaws.{good-of, is-layout-of, length-items, bits-most, items-at, items-end}
+use Rattle.layout.proofs.LayoutLaws.{good-of, is-layout-of, length-items, bits-most, items-at, items-end}
 use Rattle.plan.proofs.Reading.{Left, start, inside, room, next, finish}
 use Rattle.plan.proofs.inner.fields.Statement.{statement}
 use Rattle.plan.proofs.inner.fields.Tie as tie

@@ -5,7 +5,7 @@ use native.Mathlib.Numerals.{add-one}
 use native.Mathlib.Omega.{arith}
 use lib.ListN.{length-set}
 use Rattle.layout.specs.Plan.{ends}
-use Rattle.layout.specs.DecodeLaws.{ends-of}
+use Rattle.layout.proofs.DecodeLaws.{ends-of}
 use borrow.Author.Needs.{needs}
 use Rattle.plan.proofs.inner.put_item.Statement.{statement}
 use Rattle.plan.proofs.inner.put_item.Tie as tie

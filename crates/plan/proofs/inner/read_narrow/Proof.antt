@@ -1,21 +1,20 @@
 -- `read_narrow` meets its contract: at each field, what the check of the others will give is what it gives of all, and what they will be
 -- gives what all of them are. Assumes nothing.
 use Prim.Native.Nat.{_+_, _-_, _*_, _<_, _≤_}
-use mathlib.Core.Path.{_≡_, refl, sym, ap, _∙_}
+use mathlib.Core.Path.{_≡_, refl, sym, _∙_}
 use mathlib.Core.Bool.{true}
-use mathlib.Core.List.{[], _∷_}
+use mathlib.Core.List.{[]}
 use mathlib.Core.Logic.{⊎-elim}
 use native.Mathlib.Omega.{arith}
 use lib.ListN.{length, drop, getD}
 use lib.Seq.{drop-length}
-use Rattle.bits.specs.FieldLaws.{field-lt}
-use Rattle.layout.specs.Layout.{item}
-use Rattle.layout.specs.Plan.{code, count, ends, decode}
+use Rattle.bits.proofs.FieldLaws.{field-lt}
+use Rattle.layout.specs.Plan.{count, ends, decode}
 use Rattle.layout.specs.Check.{atField, isPlan}
-use Rattle.layout.specs.CheckLaws.{at-end}
-use Rattle.layout.specs.DecodeLaws.{ends-of}
+use Rattle.layout.proofs.CheckLaws.{at-end}
+use Rattle.layout.proofs.DecodeLaws.{ends-of}
 use Rattle.layout.specs.Take.{Ready}
-use Rattle.layout.specs.TakeLaws.{ready-plain, ready-late, ready-next, ready-field}
+use Rattle.layout.proofs.TakeLaws.{ready-plain, ready-late, ready-next, ready-field}
 use Rattle.plan.specs.Run.{fieldsOf}
 use Rattle.plan.proofs.Reading.{Left, start, next, finish}
 use Rattle.plan.proofs.inner.read_narrow.Statement.{statement}
@@ -197,7 +196,7 @@ returns-5 c =
     let none : decode 0 (drop (l .i) plan) ≡ [] = rw (e, drop-length) in
     let left = rw none at (l .inv .5) in
     let (end, out) = finish left in
-    (λ h. (sym (l .inv .4) ∙ at-end 0 (l .g) (64 - l .j) plan (l .i) e, omega (arith, left .many), end, omega (arith, l .inv .3, s .pre .2)), λ h. out)
+    (λ h. (sym (l .inv .4) ∙ at-end 0 (l .g) (64 - l .j) plan (l .i) e, omega (arith, left .many), end, omega (arith, l .inv .3, l .inv .0)), λ h. out)
 
 pub read-narrow-spec : {M : Type 1} → statement M
 read-narrow-spec =

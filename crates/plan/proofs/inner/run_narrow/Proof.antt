@@ -1,9 +1,8 @@
 -- `run_narrow` meets its contract: what was read is put where there is room for it. Assumes nothing.
 use mathlib.Core.Path.{refl, sym, _∙_}
 use native.Mathlib.Omega.{arith}
-use lib.ListN.{length}
 use Rattle.plan.specs.Run.{valuesOf, fieldsOf}
-use Rattle.plan.specs.ValueLaws.{front-put, length-values}
+use Rattle.plan.proofs.ValueLaws.{front-put, length-values}
 use borrow.Author.Needs.{needs}
 use Rattle.plan.proofs.inner.run_narrow.Statement.{statement}
 use Rattle.plan.proofs.inner.run_narrow.Tie as tie

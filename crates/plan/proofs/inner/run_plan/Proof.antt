@@ -4,12 +4,12 @@ use mathlib.Core.Path.{_≡_, refl, sym, ap, _∙_}
 use native.Mathlib.Omega.{arith}
 use lib.ListN.{length, take}
 use lib.Seq.{length-sets}
-use Rattle.layout.specs.Layout.{bytesOf}
-use Rattle.layout.specs.LayoutLaws.{length-bytes}
-use Rattle.layout.specs.Theorems.{plan-layout, bytes-items, bytes-layout}
+use Rattle.layout.specs.Bytes.{bytesOf}
+use Rattle.layout.proofs.LayoutLaws.{length-bytes}
+use Rattle.layout.proofs.Theorems.{plan-layout, bytes-items, bytes-layout}
 use Rattle.plan.specs.Run.{fieldsOf}
-use Rattle.plan.specs.RunLaws.{plan-few}
-use Rattle.plan.specs.ValueLaws.{front-take}
+use Rattle.plan.proofs.RunLaws.{plan-few}
+use Rattle.plan.proofs.ValueLaws.{front-take}
 use borrow.Author.Needs.{needs}
 use Rattle.plan.proofs.inner.run_plan.Statement.{statement}
 use Rattle.plan.proofs.inner.run_plan.Tie as tie

@@ -1,12 +1,16 @@
 -- `run_quick` meets its contract: where it runs, nothing would be refused. Assumes nothing.
-use mathlib.Core.Path.{_≡_, refl, sym, ap, _∙_}
+use Prim.Native.Nat.{_+_, _*_, _≤_}
+use mathlib.Core.Path.{_≡_, refl, sym, _∙_}
+use mathlib.Core.Bool.{true}
 use native.Mathlib.Omega.{arith}
 use lib.ListN.{length}
-use Rattle.bits.specs.Refusals.{done}
-use Rattle.lookahead.specs.State.{Belongs, stateRefusal}
-use Rattle.lookahead.specs.StateLaws.{refusal-belongs}
-use Rattle.reader.specs.Cursor.{stateIn, cursorRefusal}
-use Rattle.plan.specs.RunLaws.{not-refused}
+use Rattle.bits.specs.Refusals.{longest, done}
+use Rattle.reader.specs.Cursor.{cursorRefusal, Fits}
+use Rattle.reader.proofs.CursorLaws.{refusal-own, left-inside, stop-inside}
+use Rattle.layout.specs.Layout.{bitsOf}
+use Rattle.layout.specs.Check.{isPlan}
+use Rattle.plan.specs.Run.{fieldsOf, runRefusal}
+use Rattle.plan.proofs.RunLaws.{not-refused}
 use borrow.Author.Needs.{needs}
 use Rattle.plan.proofs.inner.run_quick.Statement.{statement}
 use Rattle.plan.proofs.inner.run_quick.Tie as tie
@@ -18,9 +22,6 @@ returns : tie.Need-returns
 returns c =
     let none = c .not-narrow .ensures in
     (λ h. absurd (omega (arith, none)), (λ h. absurd (omega (arith, none)), λ h. refl))
-
-state-in-requires : tie.Need-state-in-requires
-state-in-requires c κs = search needs
 
 refusal-requires : tie.Need-refusal-requires
 refusal-requires c κs = search needs
@@ -34,34 +35,30 @@ returns-2 c =
     (λ h. absurd (omega (arith, none)), (λ h. absurd (omega (arith, none)), λ h. refl))
 
 -- the cursor is not refused, and belongs
-own : (c : tie.Else2) → let a = c .before .before .before .before .before .before .before .args in cursorRefusal (a .order) (a .src .now) (a .cursor) ≡ done
-own c =
-    let a = c .before .before .before .before .before .before .before .args in
-    sym (c .before .refusal .ensures ∙ ap (stateRefusal (a .order) (a .src .now)) (c .before .before .state-in .ensures)) ∙ c .if2 .left
+own : (c : tie.Else2) → let a = c .before .before .before .before .before .before .args in cursorRefusal (a .order) (a .src .now) (a .cursor) ≡ done
+own c = sym (c .before .refusal .ensures) ∙ c .if2 .left
 
-belongs : (c : tie.Else2) → let a = c .before .before .before .before .before .before .before .args in Belongs (a .order) (a .src .now) (stateIn (a .cursor))
-belongs c = refusal-belongs _ _ _ (own c)
+belongs : (c : tie.Else2) → let a = c .before .before .before .before .before .before .args in Fits (a .src .now) (a .cursor)
+belongs c = refusal-own (own c) .fits
 
-mul-place : tie.Need-mul-place
-mul-place c = let h = belongs (c .before) in omega (arith, h .within .fetched, h .short)
+place-of-requires : tie.Need-place-of-requires
+place-of-requires c κs = belongs c
 
-cast-place : tie.Need-cast-place
-cast-place c = search needs
+-- the place is within the slice
+near : (c : tie.After-place-of) → let s = c .before .before .before .before .before .before .before .args .src .now in (c .place-of .result ≤ 8 * length s) × (length s ≤ longest)
+near c = let h = belongs (c .before) in (omega (arith, c .place-of .ensures, left-inside h), h .short)
 
-sub-place : tie.Need-sub-place
-sub-place c = belongs (c .before .before) .within .behind
+stop-requires : tie.Need-stop-requires
+stop-requires c κs = belongs (c .before)
 
 mul-if3 : tie.Need-mul-if3
-mul-if3 c = let h = belongs (c .before .before) in omega (arith, h .within .fetched, h .short, c .before .before .before .before .before .if1 .left)
-
-mul-if3-2 : tie.Need-mul-if3-2
-mul-if3-2 c = search needs
+mul-if3 c = omega (arith, c .before .before .before .before .if1 .left)
 
 add-if3 : tie.Need-add-if3
-add-if3 c = let h = belongs (c .before .before) in omega (arith, h .within .fetched, h .short, c .before .before .before .before .before .if1 .left)
+add-if3 c = omega (arith, near (c .before), c .before .before .before .before .if1 .left)
 
 add-if3-2 : tie.Need-add-if3-2
-add-if3-2 c = let h = belongs (c .before .before) in omega (arith, h .within .fetched, h .short, c .before .before .before .before .before .if1 .left)
+add-if3-2 c = omega (arith, near (c .before), c .before .before .before .before .if1 .left)
 
 not-narrow-requires-3 : tie.Need-not-narrow-requires-3
 not-narrow-requires-3 c κs = search needs
@@ -71,29 +68,48 @@ returns-3 c =
     let none = c .not-narrow3 .ensures in
     (λ h. absurd (omega (arith, none)), (λ h. absurd (omega (arith, none)), λ h. refl))
 
+-- what a run in one go asks
+inside : (c : tie.Else3) →
+    let a = c .before .before .before .before .before .before .before .before .before .args in
+    (length (a .src .now) ≤ longest) × (length (a .plan .now) ≤ 256) × (c .before .before .place-of .result + 64 * length (a .plan .now) + 64 ≤ 8 * length (a .src .now))
+inside c =
+    let k = c .before .before .before in
+    let h = belongs k in
+    (h .short, k .before .before .if1 .left, omega (arith, c .if3 .left, c .before .stop .ensures, stop-inside h))
+
+-- a plan that got through is not refused
+accepted : (c : tie.Else3) →
+    let a = c .before .before .before .before .before .before .before .before .before .args in
+    let place = c .before .before .place-of .result in
+    isPlan (a .plan .now) ≡ true → length (fieldsOf (a .plan .now)) ≤ length (a .results .now) → place + bitsOf (fieldsOf (a .plan .now)) ≤ place + 64 * length (a .plan .now) →
+    runRefusal (a .order) (a .src .now) (a .cursor) (a .plan .now) (length (a .results .now)) ≡ done
+accepted c passes fits within =
+    let k = c .before .before .before in
+    not-refused _ _ _ _ _ (omega (arith, k .before .before .if1 .left)) (own k) passes fits
+    (omega (arith, within, c .if3 .left, c .before .stop .ensures, c .before .before .place-of .ensures))
+
 enum-told : tie.Need-enum-told
 enum-told c = search needs
 
 run-narrow-requires : tie.Need-run-narrow-requires
-run-narrow-requires c κs = (belongs (c .before .before .before .before .before .before) .short, c .before .before .before .before .before .before .before .before .before .if1 .left, c .before .before .before .if3 .left)
+run-narrow-requires c κs = inside (c .before .before .before)
 
 enum-told-2 : tie.Need-enum-told-2
 enum-told-2 c = search needs
 
 run-narrow-requires-2 : tie.Need-run-narrow-requires-2
-run-narrow-requires-2 c κs = (belongs (c .before .before .before .before .before .before) .short, c .before .before .before .before .before .before .before .before .before .if1 .left, c .before .before .before .if3 .left)
+run-narrow-requires-2 c κs = inside (c .before .before .before)
 
 same-length : tie.Need-same-length
 same-length c = search needs
 
 returns-4 : tie.Need-returns-4
 returns-4 c =
-    let k = c .before .before .before .before .before .before .before .before .before in
+    let k = c .before .before .before .before .before .before in
+    let at = k .before .before .place-of .ensures in
     let ran = c .before .before .run-narrow .ensures in (
-      λ h.
-          let (passes, fits, end, within) = ran .0 h in
-          (not-refused _ _ _ _ _ (omega (arith, k .before .before .before .if1 .left)) (own k) passes fits (omega (arith, end, within)), end),
-      (λ h. rw (c .before .before .before .before .enum-told .given .1) (ran .1 .0 h), λ h. ran .1 .1 h),
+      λ h. let (passes, fits, end, within) = ran .0 h in (accepted k passes fits (omega (arith, end, within)), omega (arith, end, at)),
+      (λ h. rw (c .before .before .before .before .enum-told .given .1, ← at) (ran .1 .0 h), λ h. ran .1 .1 h),
     )
 
 same-length-2 : tie.Need-same-length-2
@@ -101,12 +117,11 @@ same-length-2 c = search needs
 
 returns-5 : tie.Need-returns-5
 returns-5 c =
-    let k = c .before .before .before .before .before .before .before .before .before in
+    let k = c .before .before .before .before .before .before in
+    let at = k .before .before .place-of .ensures in
     let ran = c .before .before .run-narrow2 .ensures in (
-      λ h.
-          let (passes, fits, end, within) = ran .0 h in
-          (not-refused _ _ _ _ _ (omega (arith, k .before .before .before .if1 .left)) (own k) passes fits (omega (arith, end, within)), end),
-      (λ h. rw (c .before .before .before .before .enum-told2 .given .1) (ran .1 .0 h), λ h. ran .1 .1 h),
+      λ h. let (passes, fits, end, within) = ran .0 h in (accepted k passes fits (omega (arith, end, within)), omega (arith, end, at)),
+      (λ h. rw (c .before .before .before .before .enum-told2 .given .1, ← at) (ran .1 .0 h), λ h. ran .1 .1 h),
     )
 
 pub run-quick-spec : {M : Type 1} → statement M
@@ -115,15 +130,12 @@ run-quick-spec =
     (tie.spec
     not-narrow-requires
     returns
-    state-in-requires
     refusal-requires
     not-narrow-requires-2
     returns-2
-    mul-place
-    cast-place
-    sub-place
+    place-of-requires
+    stop-requires
     mul-if3
-    mul-if3-2
     add-if3
     add-if3-2
     not-narrow-requires-3

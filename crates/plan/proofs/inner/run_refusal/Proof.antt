@@ -1,103 +1,94 @@
 -- `run_refusal` meets its contract: its tests are those of `runRefusal`, in the same order. Assumes nothing.
-use Prim.Native.Nat.{ℕ, _<_, _≤_}
-use mathlib.Core.Path.{_≡_, refl, sym, ap, ap₂, _∙_, subst}
-use mathlib.Core.Bool.{true, cond}
+use Prim.Native.Nat.{_<_, _≤_}
+use mathlib.Core.Path.{_≡_, sym, ap, _∙_}
 use native.Mathlib.Omega.{arith}
+use lib.ListN.{length}
 use lib.Dec.{ltb}
-use Rattle.bits.specs.Refusals.{done, tooFew}
-use Rattle.lookahead.specs.State.{stateRefusal}
-use Rattle.lookahead.specs.StateLaws.{refusal-belongs}
-use Rattle.reader.specs.Cursor.{cursorRefusal}
-use Rattle.reader.specs.AnswerLaws.{first-refuses, second-decides, test-refuses, test-passes}
-use Rattle.layout.specs.declared.inner.Size.{Size}
-use Rattle.layout.specs.Check.{isPlan}
-use Rattle.plan.specs.Run.{runRefusal}
-use Rattle.plan.specs.RunLaws.{planRefusal, plan-decides, no-plan, no-room, bits-decide}
+use borrow.Author.Tests.{lt-ltb, le-ltb, ne-eqb}
+use Rattle.bits.specs.Refusals.{done, tooFew, orElse, _⟶_, firstRefusal}
+use Rattle.reader.specs.Cursor.{bitsLeft, cursorRefusal}
+use Rattle.reader.proofs.CursorLaws.{refusal-own}
+use Rattle.layout.specs.declared.inner.size.Size.{Size}
+use Rattle.layout.specs.Layout.{bitsOf}
+use Rattle.plan.specs.Run.{fieldsOf, runRefusal}
+use Rattle.plan.proofs.RunLaws.{bits-decide}
 use borrow.Author.Needs.{needs}
 use Rattle.plan.proofs.inner.run_refusal.Statement.{statement}
 use Rattle.plan.proofs.inner.run_refusal.Tie as tie
 
 returns : tie.Need-returns
-unfolding runRefusal
-returns c = first-refuses _ _ (test-refuses (c .if1 .taken) _ _) (λ z. omega arith)
-
-state-in-requires : tie.Need-state-in-requires
-state-in-requires c κs = search needs
+unfolding runRefusal firstRefusal orElse
+returns c = rw (lt-ltb _ _ (c .if1 .taken))
 
 refusal-requires : tie.Need-refusal-requires
 refusal-requires c κs = search needs
 
--- the cursor's refusal, as the code finds it
-found :
-    (c : tie.After-refusal) →
-    let a = c .before .before .before .before .before .args in c .refusal .result ≡ cursorRefusal (a .order) (a .src .now) (a .cursor)
-found c =
-    let a = c .before .before .before .before .before .args in
-    c .refusal .ensures ∙ ap (stateRefusal (a .order) (a .src .now)) (c .before .state-in .ensures)
-
 returns-2 : tie.Need-returns-2
-unfolding runRefusal
-returns-2 c =
-    second-decides _ _ (test-passes (c .before .before .before .if1 .left) _ refl) refl (first-refuses _ _ (found (c .before)) (c .if2 .taken))
+unfolding runRefusal firstRefusal orElse
+returns-2 c = rw (le-ltb _ _ (c .before .before .if1 .left), ← c .before .refusal .ensures, ne-eqb _ _ (c .if2 .taken))
+
+-- the cursor is not refused
+own : (c : tie.Else2) → let a = c .before .before .before .before .before .args in cursorRefusal (a .order) (a .src .now) (a .cursor) ≡ done
+own c = sym (c .before .refusal .ensures) ∙ c .if2 .left
 
 is-plan-requires : tie.Need-is-plan-requires
 is-plan-requires c κs = search needs
 
--- where neither the plan's length nor the cursor refuses, the plan decides
-due :
-    (c : tie.After-is-plan) →
-    let a = c .before .before .before .before .before .before .before .args in
-    (x : ℕ) → x ≡ planRefusal (a .src .now) (a .cursor) (a .plan .now) (a .room) → x ≡ runRefusal (a .order) (a .src .now) (a .cursor) (a .plan .now) (a .room)
-due c x p = plan-decides _ _ _ _ _ (c .before .before .before .before .if1 .left) (sym (found (c .before .before)) ∙ c .before .if2 .left) p
-
--- the plan is one
-passes : (c : tie.Then3) → isPlan (c .before .before .before .before .before .before .before .before .args .plan .now) ≡ true
-passes c = sym (c .before .is-plan .ensures) ∙ c .if3 .taken
-
 measure-requires : tie.Need-measure-requires
-measure-requires c κs = passes c
+measure-requires c κs = sym (c .before .is-plan .ensures) ∙ c .if3 .taken
+
+-- the code finds the plan's size
+size : (c : tie.After-measure) →
+    let plan = c .before .before .before .before .before .before .before .before .args .plan .now in
+    (c .measure .result .fields ≡ length (fieldsOf plan)) × (c .measure .result .bits ≡ bitsOf (fieldsOf plan))
+size c = (ap (λ (x : Size). x .fields) (c .measure .ensures), ap (λ (x : Size). x .bits) (c .measure .ensures))
 
 returns-3 : tie.Need-returns-3
+unfolding runRefusal firstRefusal orElse
 returns-3 c =
-    let p = c .before .before .before in
-    let a = p .before .before .before .before .before .before .before .before .args in
-    due (p .before) _
-    (no-room _ _ _ _ (passes p) (subst (λ (x : Size). a .room < x .fields) (c .before .before .measure .ensures) (c .if4 .taken)))
+    let m = c .before .before in
+    let k = m .before .before .before in
+    let a = k .before .before .before .before .before .args in
+    let cramped : a .room < length (fieldsOf (a .plan .now)) = omega (arith, size m, c .if4 .taken) in
+    rw (le-ltb _ _ (k .before .before .if1 .left), own k, ← m .before .before .is-plan .ensures, m .before .if3 .taken, lt-ltb _ _ cramped)
 
 bits-left-requires : tie.Need-bits-left-requires
-bits-left-requires c κs =
-    let r = c .before .before .before .before .before in
-    let h = refusal-belongs _ _ _ (sym (found (r .before)) ∙ r .if2 .left) in
-    (h .within, h .short)
+bits-left-requires c κs = refusal-own (own (c .before .before .before .before .before)) .fits
 
--- where there is room, the bits left decide, as the code finds them
-bits-due :
-    (c : tie.After-bits-left) →
-    let a = c .before .before .before .before .before .before .before .before .before .before .before .before .args in
-    (x : ℕ) → x ≡ cond (ltb (c .bits-left .result) (c .before .before .before .measure .result .bits)) tooFew done → x ≡ runRefusal (a .order) (a .src .now) (a .cursor) (a .plan .now) (a .room)
-bits-due c x p =
-    let t = c .before .before .before .before in
-    let a = t .before .before .before .before .before .before .before .before .args in
-    let size = c .before .before .before .measure .ensures in
-    due (t .before) x
-    (bits-decide _ _ _ _ (passes t) (subst (λ (x : Size). x .fields ≤ a .room) size (c .before .if4 .left))
-    (p ∙ ap₂ (λ (n : ℕ) (z : Size). cond (ltb n (z .bits)) tooFew done) (c .bits-left .ensures) size))
+-- there is room for the fields, and so the bits left decide
+roomy : (c : tie.After-bits-left) →
+    let a = c .before .before .before .before .before .before .before .before .before .before .before .args in
+    runRefusal (a .order) (a .src .now) (a .cursor) (a .plan .now) (a .room) ≡ (ltb (bitsLeft (a .src .now) (a .cursor)) (bitsOf (fieldsOf (a .plan .now))) ⟶ tooFew)
+roomy c =
+    let m = c .before .before .before in
+    let k = m .before .before .before in
+    bits-decide _ _ _ _ _ (k .before .before .if1 .left) (own k) (sym (m .before .before .is-plan .ensures) ∙ m .before .if3 .taken) (omega (arith, size m, c .before .if4 .left))
 
 returns-4 : tie.Need-returns-4
-returns-4 c = bits-due (c .before .before) _ (test-refuses (c .if5 .taken) _ _)
+returns-4 c =
+    let l = c .before .before in
+    let a = l .before .before .before .before .before .before .before .before .before .before .before .args in
+    let few : bitsLeft (a .src .now) (a .cursor) < bitsOf (fieldsOf (a .plan .now)) = omega (arith, size (l .before .before .before), l .bits-left .ensures, c .if5 .taken) in
+    sym (roomy l ∙ rw (lt-ltb _ _ few))
 
 returns-5 : tie.Need-returns-5
-returns-5 c = bits-due (c .before .before) _ (test-passes (c .if5 .left) _ refl)
+returns-5 c =
+    let l = c .before .before in
+    let a = l .before .before .before .before .before .before .before .before .before .before .before .args in
+    let enough : bitsOf (fieldsOf (a .plan .now)) ≤ bitsLeft (a .src .now) (a .cursor) = omega (arith, size (l .before .before .before), l .bits-left .ensures, c .if5 .left) in
+    sym (roomy l ∙ rw (le-ltb _ _ enough))
 
 returns-6 : tie.Need-returns-6
-returns-6 c = due (c .before) _ (no-plan _ _ _ _ (sym (c .before .is-plan .ensures) ∙ c .if3 .left))
+unfolding runRefusal firstRefusal orElse
+returns-6 c =
+    let k = c .before .before in
+    rw (le-ltb _ _ (k .before .before .if1 .left), own k, ← c .before .is-plan .ensures, c .if3 .left)
 
 pub run-refusal-spec : {M : Type 1} → statement M
 run-refusal-spec =
     tie.close
     (tie.spec
     returns
-    state-in-requires
     refusal-requires
     returns-2
     is-plan-requires

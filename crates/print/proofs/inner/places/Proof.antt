@@ -6,7 +6,7 @@ use native.Mathlib.Nat.{pow-suc}
 use native.Mathlib.Numerals.{add-one}
 use native.Mathlib.Omega.{arith}
 use Rattle.print.specs.Print.{places}
-use Rattle.print.specs.DigitLaws.{places-some, places-few, places-are, places-more}
+use Rattle.print.proofs.DigitLaws.{places-some, places-few, places-are, places-more}
 use Rattle.print.proofs.inner.places.Statement.{statement}
 use Rattle.print.proofs.inner.places.Tie as tie
 

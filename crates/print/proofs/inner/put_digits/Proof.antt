@@ -7,7 +7,7 @@ use lib.Seq.{sets}
 use native.Mathlib.Omega.{arith}
 use Rattle.digits.specs.Digits.{zeroDigit}
 use Rattle.print.specs.Print.{digitsOf}
-use Rattle.print.specs.StoreLaws.{digits-store}
+use Rattle.print.proofs.StoreLaws.{digits-store}
 use Rattle.print.proofs.inner.put_digits.Statement.{statement}
 use Rattle.print.proofs.inner.put_digits.Tie as tie
 

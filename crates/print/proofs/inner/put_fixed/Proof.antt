@@ -2,7 +2,7 @@
 -- Assumes nothing.
 use native.Mathlib.Omega.{arith}
 use borrow.Author.Needs.{needs}
-use Rattle.print.specs.StoreLaws.{fixed-store}
+use Rattle.print.proofs.StoreLaws.{fixed-store}
 use Rattle.print.proofs.inner.put_fixed.Statement.{statement}
 use Rattle.print.proofs.inner.put_fixed.Tie as tie
 

@@ -1,7 +1,7 @@
 -- `put_part` meets its contract: a byte behind the digits that were put is one store more (`part-store`). Assumes nothing.
 use mathlib.Core.Path.{refl}
 use borrow.Author.Needs.{needs}
-use Rattle.print.specs.StoreLaws.{part-store}
+use Rattle.print.proofs.StoreLaws.{part-store}
 use Rattle.print.proofs.inner.put_part.Statement.{statement}
 use Rattle.print.proofs.inner.put_part.Tie as tie
 

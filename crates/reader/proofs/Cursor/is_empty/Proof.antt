@@ -1,38 +1,28 @@
 -- `is_empty` meets its contract: a cursor that is not refused belongs, and its counts give the bits left. Assumes nothing.
 use Prim.Native.Nat.{ℕ}
-use mathlib.Core.Path.{_≡_, refl, sym, ap, _∙_}
+use mathlib.Core.Path.{sym, ap, _∙_}
 use lib.Dec.{eqb}
-use Rattle.lookahead.specs.StateLaws.{refusal-belongs}
-use Rattle.reader.specs.Cursor.{cursorRefusal}
-use Rattle.reader.specs.Answers.{testedOf}
-use Rattle.reader.specs.AnswerLaws.{tested, of-cursor, answer-refused, answer-done, counts-ready}
+use Rattle.bits.proofs.RefusalLaws.{answer-refused, answer-done}
+use Rattle.reader.proofs.CursorLaws.{refusal-own}
+use Rattle.reader.specs.Answers.{testedOf, tested}
 use borrow.Author.Needs.{needs}
 use Rattle.reader.proofs.Cursor.is_empty.Statement.{statement}
 use Rattle.reader.proofs.Cursor.is_empty.Tie as tie
 
-state-in-requires : tie.Need-state-in-requires
-state-in-requires c κs = search needs
-
 refusal-requires : tie.Need-refusal-requires
 refusal-requires c κs = search needs
 
--- the number that the code finds is the refusal of the cursor
-told : (c : tie.After-refusal) → let a = c .before .before .before .args in c .refusal .result ≡ cursorRefusal (a .order) (a .src .now) (a .self)
-told c =
-    let a = c .before .before .before .args in
-    of-cursor (cursorRefusal (a .order) (a .src .now)) (c .refusal .ensures) (c .before .state-in .ensures)
-
 returns : tie.Need-returns
 unfolding testedOf
-returns c = answer-refused (told (c .before)) tested _ _ (c .if1 .taken)
+returns c = answer-refused (c .before .refusal .ensures) tested _ _ (c .if1 .taken)
 
 bits-left-requires : tie.Need-bits-left-requires
-bits-left-requires c κs = counts-ready (refusal-belongs _ _ _ (sym (told (c .before)) ∙ c .if1 .left)) refl
+bits-left-requires c κs = refusal-own (sym (c .before .refusal .ensures) ∙ c .if1 .left) .fits
 
 returns-2 : tie.Need-returns-2
 unfolding testedOf
-returns-2 c = answer-done (told (c .before .before)) tested _ _ (c .before .if1 .left) (ap (λ (n : ℕ). eqb n 0) (c .bits-left .ensures))
+returns-2 c = answer-done (c .before .before .refusal .ensures) tested _ _ (c .before .if1 .left) (ap (λ (n : ℕ). eqb n 0) (c .bits-left .ensures))
 
 pub is-empty-spec : {M : Type 1} → statement M
 is-empty-spec =
-    tie.close (tie.spec state-in-requires refusal-requires returns bits-left-requires returns-2)
+    tie.close (tie.spec refusal-requires returns bits-left-requires returns-2)

@@ -1,48 +1,42 @@
 -- `partial` meets its contract: the bits of a cursor's partial byte, fewer than eight, are peeked. Assumes nothing.
 use Prim.Native.Nat.{ℕ, _%_, _<_, _^_, _≤_}
-use mathlib.Core.Path.{_≡_, sym, _∙_, subst}
+use mathlib.Core.Path.{sym, ap, _∙_, subst}
 use native.Mathlib.Nat.{lt-of-lt-of-le}
 use native.Mathlib.Omega.{arith}
 use lib.Pow.{pow-mono}
 use Rattle.bits.specs.Field.{field}
-use Rattle.bits.specs.FieldLaws.{field-lt}
+use Rattle.bits.proofs.FieldLaws.{field-lt}
+use Rattle.bits.proofs.RefusalLaws.{if-refused, if-done}
+use Rattle.counts.specs.Counts as C
 use Rattle.lookahead.specs.declared.State.{State}
-use Rattle.lookahead.specs.StateLaws.{refusal-belongs}
-use Rattle.reader.specs.declared.Cursor.{Cursor}
-use Rattle.reader.specs.Cursor.{place, cursorRefusal}
+use Rattle.lookahead.specs.State.{countsOf, Belongs}
+use Rattle.reader.proofs.CursorLaws.{own-state, refusal-own}
 use Rattle.reader.specs.Answers.{partialOf}
-use Rattle.reader.specs.AnswerLaws.{of-cursor, if-refused, if-done}
 use borrow.Author.Needs.{needs}
 use Rattle.reader.proofs.Cursor.partial.Statement.{statement}
 use Rattle.reader.proofs.Cursor.partial.Tie as tie
 
-state-in-requires : tie.Need-state-in-requires
-state-in-requires c κs = search needs
-
 refusal-requires : tie.Need-refusal-requires
 refusal-requires c κs = search needs
-
--- the number that the code finds is the refusal of the cursor
-told : (c : tie.After-refusal) → let a = c .before .before .before .args in c .refusal .result ≡ cursorRefusal (a .order) (a .src .now) (a .self)
-told c =
-    let a = c .before .before .before .args in
-    of-cursor (cursorRefusal (a .order) (a .src .now)) (c .refusal .ensures) (c .before .state-in .ensures)
 
 returns : tie.Need-returns
 unfolding partialOf
 returns c =
-    let e = told (c .before) in
+    let e = c .before .refusal .ensures in
     (λ i. record { refusal = e i; «partial_bits» = 0; «partial_byte» = 0 }) ∙ if-refused e _ _ (c .if1 .taken)
 
-cast-t8 : tie.Need-cast-t8
-cast-t8 c = search needs
+cast-t7 : tie.Need-cast-t7
+cast-t7 c = search needs
+
+state-in-requires : tie.Need-state-in-requires
+state-in-requires c κs = search needs
 
 peek-requires : tie.Need-peek-requires
 peek-requires c κs =
-    let t = c .before .before .before .state-in in (
-      refusal-belongs _ _ _ (sym (c .before .before .refusal .ensures) ∙ c .before .if1 .left),
-      subst (λ (u : State). c .before .before .before .before .before .args .self .lookahead % 8 ≤ u .lookahead) (sym (t .ensures)) (omega arith),
-    )
+    let a = c .before .before .before .before .before .args in
+    let h = refusal-own (sym (c .before .before .before .refusal .ensures) ∙ c .before .before .if1 .left) in
+    subst (λ (t : State). Belongs (a .order) (a .src .now) t × (a .self .lookahead % 8 ≤ t .lookahead)) (sym (c .state-in .ensures))
+    (own-state h, omega arith)
 
 cast-t10 : tie.Need-cast-t10
 cast-t10 c =
@@ -55,12 +49,11 @@ unfolding partialOf
 returns-2 c =
     let a = c .before .before .before .before .before .before .args in
     let n : ℕ = a .self .lookahead % 8 in
-    let f : Cursor → ℕ = λ x. field (a .order) (a .src .now) (place x) n in
-    let v = of-cursor f (c .peek .ensures) (c .before .before .before .before .state-in .ensures) in
+    let v = c .peek .ensures ∙ ap (λ (t : State). field (a .order) (a .src .now) (C.place (countsOf t)) n) (c .before .state-in .ensures) in
     (λ i. record { refusal = 0; «partial_bits» = n; «partial_byte» = v i })
-    ∙ if-done (told (c .before .before .before)) _ _ (c .before .before .if1 .left)
+    ∙ if-done (c .before .before .before .before .refusal .ensures) _ _ (c .before .before .before .if1 .left)
 
 pub partial-spec : {M : Type 1} → statement M
 partial-spec =
     tie.close
-    (tie.spec state-in-requires refusal-requires returns cast-t8 peek-requires cast-t10 returns-2)
+    (tie.spec refusal-requires returns cast-t7 state-in-requires peek-requires cast-t10 returns-2)

@@ -10,9 +10,10 @@ use Rattle.bits.specs.Refusals.{done}
 use Rattle.lookahead.specs.declared.State.{State}
 use Rattle.lookahead.specs.declared.Taken.{Taken}
 use Rattle.lookahead.specs.State.{Belongs, countsOf, takenOf, inside}
-use Rattle.reader.specs.Cursor.{stateIn, cursorWith, countsIn}
+use Rattle.reader.specs.Cursor.{withState, countsIn, cursorAt, Own}
+use Rattle.reader.proofs.CursorLaws.{own-state}
 use Rattle.reader.specs.Answers.{readRefusal, readOf}
-use Rattle.reader.specs.ReadLaws.{inside-done, read-done}
+use Rattle.reader.proofs.ReadLaws.{inside-done, read-done}
 use borrow.Author.Needs.{needs}
 use Rattle.reader.proofs.Cursor.read_bits.Statement.{statement}
 use Rattle.reader.proofs.Cursor.read_bits.Tie as tie
@@ -30,7 +31,7 @@ state-in-requires c κs = search needs
 granted :
     (c : tie.After-state-in) → let a = c .before .before .before .before .before .args in
     let s = take (length (a .src .now)) (a .src .now) in
-    Belongs (a .order) s (stateIn (a .self)) × (inside (length s) (countsIn (a .self)) ≡ true) × (a .bits ≤ 56) × (readRefusal (a .order) s (a .self) (a .bits) ≡ done)
+    Own (a .order) s (a .self) × (inside (length s) (countsIn (a .self)) ≡ true) × (a .bits ≤ 56) × (readRefusal (a .order) s (a .self) (a .bits) ≡ done)
 granted c = inside-done _ _ _ _ (sym (c .before .before .is-inside .ensures) ∙ c .before .if1 .taken)
 
 read-inside-requires : tie.Need-read-inside-requires
@@ -38,7 +39,7 @@ read-inside-requires c κs =
     let a = c .before .before .before .before .before .args in
     let s = take (length (a .src .now)) (a .src .now) in
     let (h, within, narrow, _) = granted c in (
-      subst (Belongs (a .order) s) (sym (c .state-in .ensures)) h,
+      subst (Belongs (a .order) s) (sym (c .state-in .ensures)) (own-state h),
       subst (λ (t : State). inside (length s) (countsOf t) ≡ true) (sym (c .state-in .ensures)) within,
       narrow,
     )
@@ -47,12 +48,13 @@ done-with-requires : tie.Need-done-with-requires
 done-with-requires c κs = search needs
 
 returns : tie.Need-returns
+unfolding cursorAt
 returns c =
     let c₁ = c .before .before in
     let a = c₁ .before .before .before .before .before .args in
     let s = take (length (a .src .now)) (a .src .now) in
     c .done-with .ensures
-    ∙ ap (λ (x : Taken). record { refusal = done; value = x .value; cursor = cursorWith (x .state) })
+    ∙ ap (λ (x : Taken). record { refusal = done; value = x .value; cursor = withState (a .self) (x .state) })
     (c .before .read-inside .ensures ∙ ap (λ (t : State). takenOf (a .order) s (countsOf t) (a .bits)) (c₁ .state-in .ensures))
     ∙ sym (read-done (a .order) s (a .self) (a .bits) (granted c₁ .3))
     ∙ ap (λ (l : List ℕ). readOf (a .order) l (a .self) (a .bits)) (take-length (a .src .now))

@@ -2,7 +2,7 @@
 use mathlib.Core.Path.{ap, _∙_}
 use Rattle.floats.specs.Floats.{singleOf}
 use Rattle.reader.specs.declared.ReadU64.{ReadU64}
-use Rattle.reader.specs.AnswerLaws.{answered-lt}
+use Rattle.reader.proofs.AnswerLaws.{answered-lt}
 use borrow.Author.Needs.{needs}
 use Rattle.reader.proofs.Cursor.read_f32.Statement.{statement}
 use Rattle.reader.proofs.Cursor.read_f32.Tie as tie

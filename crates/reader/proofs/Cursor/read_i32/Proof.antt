@@ -1,7 +1,7 @@
 -- `read_i32` meets its contract: a read of 32 bits is extended at 64 bits, and fits 32 as a signed number. Assumes nothing.
 use native.Mathlib.Omega.{arith}
 use mir.Syntax.{w32}
-use Rattle.reader.specs.AnswerLaws.{answered-lt, signed-cast}
+use Rattle.reader.proofs.AnswerLaws.{answered-lt, signed-cast}
 use borrow.Author.Needs.{needs}
 use Rattle.reader.proofs.Cursor.read_i32.Statement.{statement}
 use Rattle.reader.proofs.Cursor.read_i32.Tie as tie

@@ -4,7 +4,7 @@ use mir.Syntax.{w64}
 use mir.ValLaws.{toZ-ofZ}
 use Rattle.bits.specs.Signed.{signed}
 use Rattle.reader.specs.declared.ReadU64.{ReadU64}
-use Rattle.reader.specs.AnswerLaws.{read-granted, answered-refusal, answered-lt, refused-signed}
+use Rattle.reader.proofs.AnswerLaws.{read-granted, answered-refusal, answered-lt, refused-signed}
 use borrow.Author.Needs.{needs}
 use Rattle.reader.proofs.Cursor.read_signed_bits.Statement.{statement}
 use Rattle.reader.proofs.Cursor.read_signed_bits.Tie as tie

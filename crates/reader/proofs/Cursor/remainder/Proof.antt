@@ -1,38 +1,29 @@
 -- `remainder` meets its contract: the whole bytes of the lookahead lie before the offset, and the part goes from them to the end.
 -- Assumes nothing.
-use mathlib.Core.Path.{_≡_, sym, _∙_}
+use mathlib.Core.Path.{sym, _∙_}
 use native.Mathlib.Omega.{arith}
-use Rattle.lookahead.specs.State.{Belongs}
-use Rattle.lookahead.specs.StateLaws.{refusal-belongs}
-use Rattle.reader.specs.Cursor.{stateIn, cursorRefusal}
+use Rattle.bits.proofs.RefusalLaws.{if-refused, if-done}
+use Rattle.reader.proofs.CursorLaws.{refusal-own}
+use Rattle.reader.specs.Cursor.{Own}
 use Rattle.reader.specs.Answers.{remainderOf}
-use Rattle.reader.specs.AnswerLaws.{of-cursor, if-refused, if-done, to-end}
+use Rattle.reader.proofs.AnswerLaws.{to-end}
 use borrow.Author.Needs.{needs}
 use Rattle.reader.proofs.Cursor.remainder.Statement.{statement}
 use Rattle.reader.proofs.Cursor.remainder.Tie as tie
 
-state-in-requires : tie.Need-state-in-requires
-state-in-requires c κs = search needs
-
 refusal-requires : tie.Need-refusal-requires
 refusal-requires c κs = search needs
-
--- the number that the code finds is the refusal of the cursor
-told : (c : tie.After-refusal) → let a = c .before .before .before .args in c .refusal .result ≡ cursorRefusal (a .order) (a .src .now) (a .self)
-told c =
-    let a = c .before .before .before .args in
-    of-cursor (cursorRefusal (a .order) (a .src .now)) (c .refusal .ensures) (c .before .state-in .ensures)
 
 slice-aggregate-result : tie.Need-slice-aggregate-result
 slice-aggregate-result c = search needs
 
 returns : tie.Need-returns
 unfolding remainderOf
-returns c = if-refused (told (c .before .before)) _ _ (c .before .if1 .taken)
+returns c = if-refused (c .before .before .refusal .ensures) _ _ (c .before .if1 .taken)
 
 -- a cursor that is not refused belongs
-belongs : (c : tie.Else1) → let a = c .before .before .before .before .args in Belongs (a .order) (a .src .now) (stateIn (a .self))
-belongs c = refusal-belongs _ _ _ (sym (told (c .before)) ∙ c .if1 .left)
+belongs : (c : tie.Else1) → let a = c .before .before .before .args in Own (a .order) (a .src .now) (a .self)
+belongs c = refusal-own (sym (c .before .refusal .ensures) ∙ c .if1 .left)
 
 cast-start : tie.Need-cast-start
 cast-start c = search needs
@@ -52,14 +43,13 @@ part-result-end c = search needs
 returns-2 : tie.Need-returns-2
 unfolding remainderOf
 returns-2 c =
-    to-end (c .before .before .before .before .before .before .before .args .src .now) _
-    ∙ if-done (told (c .before .before .before .before)) _ _ (c .before .before .before .if1 .left)
+    to-end (c .before .before .before .before .before .before .args .src .now) _
+    ∙ if-done (c .before .before .before .before .refusal .ensures) _ _ (c .before .before .before .if1 .left)
 
 pub remainder-spec : {M : Type 1} → statement M
 remainder-spec =
     tie.close
     (tie.spec
-    state-in-requires
     refusal-requires
     slice-aggregate-result
     returns

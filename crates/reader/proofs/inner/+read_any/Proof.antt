@@ -1,30 +1,33 @@
 -- `read_any` meets its contract: the refusal decides; a wide read is two narrower ones with a refill between them (`wide-by-parts`). Assumes nothing.
-use mathlib.Core.Path.{_≡_, refl, sym, ap, ap₂, _∙_, subst}
+use mathlib.Core.Path.{_≡_, sym, ap, ap₂, _∙_, subst}
 use Prim.Native.Nat.{ℕ, _+_, _-_, _<_, _≤_, _^_}
+use native.Mathlib.Nat.{le-trans}
 use native.Mathlib.Omega.{arith}
 use lib.ListN.{length}
 use borrow.Fn.Kinds.{In, Out}
 use borrow.Fn.PlainCycle.{Measures, is, falls, and}
 use Rattle.bits.specs.Refusals.{done}
 use Rattle.bits.specs.Field.{join, field}
-use Rattle.bits.specs.FieldLaws.{field-lt}
+use Rattle.bits.proofs.FieldLaws.{field-lt}
 use Rattle.counts.specs.Counts.{afterRefill, afterRead}
+use Rattle.counts.specs.Counts as C
 use Rattle.lookahead.specs.declared.State.{State}
 use Rattle.lookahead.specs.declared.Taken.{Taken}
 use Rattle.lookahead.specs.State.{Belongs, countsOf, stateOf, takenOf}
 use Rattle.reader.specs.declared.Cursor.{Cursor}
 use Rattle.reader.specs.declared.ReadU64.{ReadU64}
-use Rattle.reader.specs.Cursor.{stateIn, cursorWith, countsIn, cursorAt, place}
+use Rattle.reader.specs.Cursor.{stateIn, withState, countsIn, cursorAt, place}
+use Rattle.reader.proofs.CursorLaws.{own-state, left-le}
 use Rattle.reader.specs.Answers.{readRefusal, readOf}
-use Rattle.reader.specs.AnswerLaws.{if-refused, if-done, read-granted}
-use Rattle.reader.specs.ReadLaws.{read-done, low-done, middle-belongs, rest-at, rest-done, wide-by-parts}
+use Rattle.reader.proofs.AnswerLaws.{read-granted}
+use Rattle.reader.proofs.ReadLaws.{read-done, low-done, middle-belongs, rest-at, rest-done, wide-by-parts}
 use Rattle.reader.proofs.inner.read_any.Reads as read-any
 use Rattle.reader.proofs.inner.read_any.Kinds as read-any-kinds
 use Rattle.reader.proofs.inner.+read_any.Lts-read_any as read-any-lts
 use Rattle.bits.proofs.inner.join_bits.Reads as join-bits-reads
+use Rattle.bits.proofs.RefusalLaws.{if-refused, if-done}
 use Rattle.lookahead.proofs.inner.read_short.Reads as read-short-reads
 use Rattle.lookahead.proofs.inner.refill.Reads as refill-reads
-use Rattle.reader.proofs.inner.cursor_with.Reads as cursor-with-reads
 use Rattle.reader.proofs.inner.done_with.Reads as done-with-reads
 use Rattle.reader.proofs.inner.read_refusal.Reads as read-refusal-reads
 use Rattle.reader.proofs.inner.state_in.Reads as state-in-reads
@@ -45,16 +48,14 @@ module _ (t : ℕ) where
   calls = (
     read-refusal-reads.Asked,
     read-refusal-reads.Learnt,
-    cursor-with-reads.Asked,
-    cursor-with-reads.Learnt,
+    state-in-reads.Asked,
+    state-in-reads.Learnt,
     read-short-reads.Asked,
     read-short-reads.Learnt,
     done-with-reads.Asked,
     done-with-reads.Learnt,
     read-any-below,
     read-any.Post,
-    state-in-reads.Asked,
-    state-in-reads.Learnt,
     refill-reads.Asked,
     refill-reads.Learnt,
     join-bits-reads.Asked,
@@ -71,24 +72,29 @@ module _ (t : ℕ) where
   refused : at read-any-lts.Need-returns
   unfolding readOf
   refused c =
-      let e = c .before .before .read-refusal .ensures in
-      (λ i. record { refusal = e i; value = 0; cursor = c .cursor-with .ensures i }) ∙ if-refused e _ _ (c .before .if1 .taken)
+      let e = c .before .read-refusal .ensures in
+      (λ i. record { refusal = e i; value = 0; cursor = from (c .before .before .before) }) ∙ if-refused e _ _ (c .if1 .taken)
 
   short-asks : at read-any-lts.Need-read-short-requires
   short-asks c κs =
-      let (h, b, d) = read-granted _ _ (from (c .before .before .before .before)) _ (sym (c .before .before .read-refusal .ensures) ∙ c .before .if1 .left) in
-      (h, c .if2 .taken, d)
+      let a = c .before .before .before .before .before in
+      let (h, b, d) = read-granted _ _ (from a) _ (sym (c .before .before .before .read-refusal .ensures) ∙ c .before .before .if1 .left) in
+      subst (λ (t : State). Belongs (a .args .order) (a .args .src .now) t × (a .args .bits ≤ 56) × (a .args .bits ≤ C.bitsLeft (length (a .args .src .now)) (countsOf t)))
+      (sym (c .state-in .ensures)) (own-state h, c .before .if2 .taken, le-trans d (left-le (h .fits)))
 
   short : at read-any-lts.Need-returns-2
-  unfolding readOf
+  unfolding readOf cursorAt
   short c =
+      let start = c .before .before .before .before .before .before .before in
+      let a = start .args in
       c .done-with .ensures
-      ∙ ap (λ (x : Taken). record { refusal = done; value = x .value; cursor = cursorWith (x .state) }) (c .before .read-short .ensures)
-      ∙ if-done (c .before .before .before .before .read-refusal .ensures) _ _ (c .before .before .before .if1 .left)
+      ∙ ap (λ (x : Taken). record { refusal = done; value = x .value; cursor = withState (from start) (x .state) })
+      (c .before .read-short .ensures ∙ ap (λ (t : State). takenOf (a .order) (a .src .now) (countsOf t) (a .bits)) (c .before .before .state-in .ensures))
+      ∙ if-done (c .before .before .before .before .before .read-refusal .ensures) _ _ (c .before .before .before .before .if1 .left)
 
   -- ---- a wide read, where its first part was read
 
-  module _ (c : at read-any-lts.After-state-in) where
+  module _ (c : at read-any-lts.After-state-in2) where
     abbrev start : at read-any-lts.Start
     start = c .before .before .before .before .before .before .before
 
@@ -102,16 +108,17 @@ module _ (t : ℕ) where
         record {
           refusal = done;
           value = field (start .args .order) (start .args .src .now) (place (from start)) 56;
-          cursor = cursorAt (start .args .order) (start .args .src .now) (afterRead (length (start .args .src .now)) 56 (countsIn (from start)));
+          cursor = cursorAt (start .args .order) (start .args .src .now) (from start) (afterRead (length (start .args .src .now)) 56 (countsIn (from start)));
         }
     low =
         let a = start .args in
         c .before .before .read-any .ensures ∙ read-done (a .order) (a .src .now) (from start) 56 (low-done (a .order) (a .src .now) (from start) (a .bits) wider granted)
 
-    middle-is : c .state-in .result ≡ stateIn (cursorAt (start .args .order) (start .args .src .now) (afterRead (length (start .args .src .now)) 56 (countsIn (from start))))
-    middle-is = c .state-in .ensures ∙ ap (λ (r : ReadU64). stateIn (r .cursor)) low
+    middle-is : c .state-in2 .result ≡ stateOf (start .args .order) (start .args .src .now) (afterRead (length (start .args .src .now)) 56 (countsIn (from start)))
+    unfolding cursorAt
+    middle-is = c .state-in2 .ensures ∙ ap (λ (r : ReadU64). stateIn (r .cursor)) low
 
-    refill-ready : Belongs (start .args .order) (start .args .src .now) (c .state-in .result)
+    refill-ready : Belongs (start .args .order) (start .args .src .now) (c .state-in2 .result)
     refill-ready =
         let a = start .args in
         subst (Belongs (a .order) (a .src .now)) (sym middle-is) (middle-belongs (a .order) (a .src .now) (from start) (a .bits) wider granted)
@@ -122,7 +129,7 @@ module _ (t : ℕ) where
   -- ---- and where the rest was
 
   module _ (c : at read-any-lts.After-last) where
-    abbrev before : at read-any-lts.After-state-in
+    abbrev before : at read-any-lts.After-state-in2
     before = c .before .before .before
 
     high : c .before .read-any2 .result ≡
@@ -131,13 +138,14 @@ module _ (t : ℕ) where
         record {
           refusal = done;
           value = field (a .order) (a .src .now) (place from-rest) (a .bits - 56);
-          cursor = cursorAt (a .order) (a .src .now) (afterRead (length (a .src .now)) (a .bits - 56) (countsIn from-rest));
+          cursor = cursorAt (a .order) (a .src .now) (from (start before)) (afterRead (length (a .src .now)) (a .bits - 56) (afterRefill (length (a .src .now)) (afterRead (length (a .src .now)) 56 (countsIn (from (start before))))));
         })
+    unfolding cursorAt
     high =
         let a = start before .args in
         let f = c .before .before .refill .ensures ∙ ap (λ (x : State). stateOf (a .order) (a .src .now) (afterRefill (length (a .src .now)) (countsOf x))) (middle-is before) in
         c .before .read-any2 .ensures
-        ∙ ap (λ (x : State). readOf (a .order) (a .src .now) (cursorWith x) (a .bits - 56)) f
+        ∙ ap (λ (x : State). readOf (a .order) (a .src .now) (withState (from (start before)) x) (a .bits - 56)) f
         ∙ read-done (a .order) (a .src .now) (rest-at (a .order) (a .src .now) (from (start before)) (a .bits) (wider before) (granted before)) (a .bits - 56)
         (rest-done (a .order) (a .src .now) (from (start before)) (a .bits) (wider before) (granted before))
 
@@ -167,8 +175,8 @@ pub +read-any-spec : {M : Type 1} → statement M
     (read-any-at t)
     read-any.Post
     (λ c κs. omega arith)
-    (λ c κs. omega arith)
     (refused t)
+    (λ c κs. omega arith)
     (short-asks t)
     (λ c κs. omega arith)
     (short t)

@@ -4,11 +4,11 @@ use borrow.Author.Needs.{needs}
 use Rattle.reader.proofs.inner.done_with.Statement.{statement}
 use Rattle.reader.proofs.inner.done_with.Tie as tie
 
-cursor-with-requires : tie.Need-cursor-with-requires
-cursor-with-requires c κs = search needs
+with-state-requires : tie.Need-with-state-requires
+with-state-requires c κs = search needs
 
 returns : tie.Need-returns
-returns c = λ i. record { refusal = done; value = c .before .before .args .taken .value; cursor = c .cursor-with .ensures i }
+returns c = λ i. record { refusal = done; value = c .before .before .args .taken .value; cursor = c .with-state .ensures i }
 
 pub done-with-spec : {M : Type 1} → statement M
-done-with-spec = tie.close (tie.spec cursor-with-requires returns)
+done-with-spec = tie.close (tie.spec with-state-requires returns)

@@ -1,6 +1,5 @@
 -- `is_inside` meets its contract: its tests are those of the definition, one after the other. Assumes nothing.
 use mathlib.Core.Path.{_≡_, sym, ap, _∙_, subst}
-use mathlib.Core.Bool.{true}
 use Prim.Native.Nat.{_≤_}
 use native.Mathlib.Omega.{arith}
 use lib.ListN.{length}
@@ -9,7 +8,7 @@ use borrow.Author.Tests.{le-leb, lt-leb}
 use Rattle.counts.specs.declared.Counts.{Counts}
 use Rattle.counts.specs.Counts.{Within}
 use Rattle.lookahead.specs.State.{inside, registerOf}
-use Rattle.lookahead.specs.StateLaws.{inside-is}
+use Rattle.lookahead.proofs.StateLaws.{inside-is}
 use Rattle.reader.specs.Cursor.{countsIn, isInside}
 use borrow.Author.Needs.{needs}
 use Rattle.reader.proofs.inner.is_inside.Statement.{statement}

@@ -1,40 +1,54 @@
--- `fits` meets its contract: each test that passed or failed decides its part of the conjunction. Assumes nothing.
-use Prim.Native.Nat.{_^_}
-use mathlib.Core.Path.{sym}
-use borrow.Author.Tests.{lt-ltb, le-ltb}
-use Rattle.record.specs.Record.{fits}
+-- `fits` meets its contract: a magnitude comes back from its 64 bits. Assumes nothing.
+use mathlib.Core.Path.{_≡_, ap, _∙_}
+use Prim.Native.Nat.{_<_}
+use native.Mathlib.Omega.{arith}
+use lib.IntN.{ℤ}
+use lib.Signed.{mag}
+use mir.Syntax.{w16}
+use mir.ValLaws.{toZ-ofZ}
+use Rattle.bits.specs.Signed.{signed, pattern}
+use Rattle.sign.proofs.SignedLaws.{signed-pattern}
+use Rattle.record.specs.Record.{depth, fits}
+use borrow.Author.Needs.{needs}
 use Rattle.record.proofs.inner.fits.Statement.{statement}
 use Rattle.record.proofs.inner.fits.Tie as tie
 
+cast-six-fit : tie.Need-cast-six-fit
+cast-six-fit c = search needs
+
+cast-six-fit-2 : tie.Need-cast-six-fit-2
+cast-six-fit-2 c = search needs
+
+magnitude-number-requires : tie.Need-magnitude-number-requires
+magnitude-number-requires c κs = search needs
+
+cast-six-fit-3 : tie.Need-cast-six-fit-3
+cast-six-fit-3 c = search needs
+
+cast-six-fit-4 : tie.Need-cast-six-fit-4
+cast-six-fit-4 c = search needs
+
+six-fit-requires : tie.Need-six-fit-requires
+six-fit-requires c κs = search needs
+
 returns : tie.Need-returns
-unfolding fits
 returns c =
-    let a = c .before .before .before .before .before .before .before .before .before .args .r in
-    sym (rw (lt-ltb (a .star) (2 ^ 20) (c .before .before .before .before .before .before .before .if1 .taken), lt-ltb (a .date) (2 ^ 38) (c .before .before .before .before .before .if2 .taken), lt-ltb (a .limit) 2 (c .before .before .before .if3 .taken), lt-ltb (a .error) (2 ^ 10) (c .before .if4 .taken)))
-
-returns-2 : tie.Need-returns-2
-unfolding fits
-returns-2 c =
-    let a = c .before .before .before .before .before .before .before .before .args .r in
-    sym (rw (lt-ltb (a .star) (2 ^ 20) (c .before .before .before .before .before .before .if1 .taken), lt-ltb (a .date) (2 ^ 38) (c .before .before .before .before .if2 .taken), lt-ltb (a .limit) 2 (c .before .before .if3 .taken), le-ltb (a .error) (2 ^ 10) (c .if4 .left)))
-
-returns-3 : tie.Need-returns-3
-unfolding fits
-returns-3 c =
-    let a = c .before .before .before .before .before .before .args .r in
-    sym (rw (lt-ltb (a .star) (2 ^ 20) (c .before .before .before .before .if1 .taken), lt-ltb (a .date) (2 ^ 38) (c .before .before .if2 .taken), le-ltb (a .limit) 2 (c .if3 .left)))
-
-returns-4 : tie.Need-returns-4
-unfolding fits
-returns-4 c =
-    let a = c .before .before .before .before .args .r in
-    sym (rw (lt-ltb (a .star) (2 ^ 20) (c .before .before .if1 .taken), le-ltb (a .date) (2 ^ 38) (c .if2 .left)))
-
-returns-5 : tie.Need-returns-5
-unfolding fits
-returns-5 c =
-    let a = c .before .before .args .r in
-    sym (rw (le-ltb (a .star) (2 ^ 20) (c .if1 .left)))
+    let u = c .before .before .before in
+    let r = u .before .before .before .before .args .r in
+    let h : mag (r .magnitude) < depth = u .before .struct-told .given .1 .1 .1 .0 .1 in
+    let e : signed 64 (u .magnitude-number .result) ≡ r .magnitude =
+    ap (signed 64) (u .magnitude-number .ensures ∙ ap (pattern 64) (toZ-ofZ w16 (r .magnitude) (record { sfits = h })))
+    ∙ signed-pattern 63 (r .magnitude) (omega (arith, h)) in
+    c .six-fit .ensures ∙ ap (λ (z : ℤ). fits (record { star = r .star; date = r .date; limit = r .limit; magnitude = z; error = r .error; filter = r .filter })) e
 
 pub fits-spec : {M : Type 1} → statement M
-fits-spec = tie.close (tie.spec returns returns-2 returns-3 returns-4 returns-5)
+fits-spec =
+    tie.close
+    (tie.spec
+    cast-six-fit
+    cast-six-fit-2
+    magnitude-number-requires
+    cast-six-fit-3
+    cast-six-fit-4
+    six-fit-requires
+    returns)

@@ -7,8 +7,8 @@ use lib.Signed.{mag}
 use mir.Syntax.{w64}
 use mir.Val.{toZ, ofZ}
 use mir.ValLaws.{toZ-ofZ}
-use Rattle.sign.specs.SignedLaws.{pattern-ofZ}
-use Rattle.sign.specs.FlipLaws.{complement, complement-fits, complement-read, negative, nonnegative}
+use Rattle.sign.proofs.SignedLaws.{pattern-ofZ}
+use Rattle.sign.proofs.FlipLaws.{complement, complement-fits, complement-read, negative, nonnegative}
 use Rattle.sign.proofs.inner.bits_of_signed.Statement.{statement}
 use Rattle.sign.proofs.inner.bits_of_signed.Tie as tie
 

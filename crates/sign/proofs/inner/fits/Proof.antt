@@ -4,7 +4,7 @@ use Prim.Native.Nat.{_^_}
 use native.Mathlib.Omega.{arith}
 use borrow.Author.Needs.{needs}
 use borrow.Author.Tests.{lt-ltb}
-use Rattle.bits.specs.WordLaws.{one-shl}
+use Rattle.bits.proofs.WordLaws.{one-shl}
 use Rattle.sign.proofs.inner.fits.Statement.{statement}
 use Rattle.sign.proofs.inner.fits.Tie as tie
 

@@ -7,8 +7,8 @@ use mir.Syntax.{w64}
 use mir.Val.{toZ, SFits}
 use mir.ValLaws.{fits-not, toZ-fits, toZ-pos}
 use borrow.Author.Needs.{needs}
-use Rattle.sign.specs.SignedLaws.{signed-toZ, signed-high}
-use Rattle.sign.specs.FlipLaws.{complement, complement-fits, complement-read}
+use Rattle.sign.proofs.SignedLaws.{signed-toZ, signed-high}
+use Rattle.sign.proofs.FlipLaws.{complement, complement-fits, complement-read}
 use Rattle.sign.proofs.inner.signed_of_bits.Statement.{statement}
 use Rattle.sign.proofs.inner.signed_of_bits.Tie as tie
 

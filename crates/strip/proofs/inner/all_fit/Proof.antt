@@ -6,7 +6,7 @@ use native.Mathlib.Nat.{sub-zero}
 use native.Mathlib.Omega.{arith}
 use lib.ListN.{length, drop}
 use Rattle.strip.specs.Strip.{recordsIn, allFit}
-use Rattle.strip.specs.ListLaws.{next-fits, no-record-left, six-fit}
+use Rattle.strip.proofs.ListLaws.{next-fits, no-record-left}
 use Rattle.strip.proofs.inner.all_fit.Statement.{statement}
 use Rattle.strip.proofs.inner.all_fit.Tie as tie
 
@@ -30,7 +30,7 @@ decides c =
     let test = c .before .before .before .before .before .before .before in
     let l = test .before .loop in
     let a = test .before .before .before .args in
-    ap (λ (t : Bool). t && behind c) (c .six-fit .ensures ∙ six-fit _ _ _ _ _ _)
+    ap (λ (t : Bool). t && behind c) (c .six-fit .ensures)
     ∙ sym (next-fits (a .numbers .now) (a .n) (l .i) (l .at) (test .loop-test .taken) (l .inv .1)) ∙ l .inv .2
 
 loop-holds : tie.Need-loop-holds Inv-loop μ-loop

@@ -1,9 +1,10 @@
 -- `pack_refusal` meets its contract: its tests are those of `packRefusal`, in the same order. Assumes nothing.
 use mathlib.Core.Path.{_≡_, sym, ap, _∙_}
 use native.Mathlib.Omega.{arith}
-use Rattle.bits.specs.RefusalLaws.{orElse-first, orElse-second}
+use borrow.Author.Tests.{ne-eqb}
+use Rattle.bits.specs.Refusals.{orElse, firstRefusal}
 use Rattle.packing.specs.Packing.{stateRefusal}
-use Rattle.packing.specs.BelongsLaws.{refusal-belongs}
+use Rattle.packing.proofs.BelongsLaws.{refusal-belongs}
 use Rattle.writer.specs.Writer.{writerRefusal}
 use Rattle.strip.specs.Answers.{packRefusal}
 use borrow.Author.Needs.{needs}
@@ -20,8 +21,8 @@ told : (c : tie.After-refusal) → writerRefusal (c .before .before .args .len) 
 told c = sym (c .refusal .ensures ∙ ap (stateRefusal (c .before .before .args .len)) (c .before .state-in .ensures))
 
 returns : tie.Need-returns
-unfolding packRefusal
-returns c = rw (told (c .before), orElse-first _ _ (c .if1 .taken))
+unfolding packRefusal firstRefusal orElse
+returns c = rw (told (c .before), ne-eqb _ _ (c .if1 .taken))
 
 fits-requires : tie.Need-fits-requires
 fits-requires c κs = search needs
@@ -32,16 +33,16 @@ room-refusal-requires c κs =
     (refusal-belongs _ _ (told (l .before) ∙ l .if1 .left), omega arith)
 
 returns-2 : tie.Need-returns-2
-unfolding packRefusal
+unfolding packRefusal firstRefusal orElse
 returns-2 c =
     let l = c .before .before .before in
-    rw (orElse-second _ _ (told (l .before) ∙ l .if1 .left), ← c .before .before .fits2 .ensures, c .before .if2 .taken) (c .room-refusal .ensures)
+    rw (told (l .before) ∙ l .if1 .left, ← c .before .before .fits2 .ensures, c .before .if2 .taken) (c .room-refusal .ensures)
 
 returns-3 : tie.Need-returns-3
-unfolding packRefusal
+unfolding packRefusal firstRefusal orElse
 returns-3 c =
     let l = c .before .before in
-    rw (orElse-second _ _ (told (l .before) ∙ l .if1 .left), ← c .before .fits2 .ensures, c .if2 .left)
+    rw (told (l .before) ∙ l .if1 .left, ← c .before .fits2 .ensures, c .if2 .left)
 
 pub pack-refusal-spec : {M : Type 1} → statement M
 pack-refusal-spec =

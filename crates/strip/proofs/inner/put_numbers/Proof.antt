@@ -9,7 +9,7 @@ use lib.Seq.{sets, length-sets}
 use Rattle.record.specs.Record.{recordBits}
 use Rattle.strip.specs.Bits.{recordAt}
 use Rattle.strip.specs.Strip.{numbersOf, allNumbers, recordsFrom}
-use Rattle.strip.specs.ListLaws.{next-stored, none-stored}
+use Rattle.strip.proofs.ListLaws.{next-stored, none-stored}
 use Rattle.strip.proofs.inner.put_numbers.Statement.{statement}
 use Rattle.strip.proofs.inner.put_numbers.Tie as tie
 
@@ -53,7 +53,7 @@ loop-again c =
       omega arith,
       omega arith,
       len ∙ l .inv .3,
-      ap (λ (t : List ℕ). sets t (l .at + 6) (allNumbers (recordsFrom s (l .place + 89) (a .count - (l .i + 1))))) (stored .ensures)
+      ap (λ (t : List ℕ). sets t (l .at + 6) (allNumbers (recordsFrom s (l .place + recordBits) (a .count - (l .i + 1))))) (stored .ensures)
           ∙ next-stored s (l .numbers) (l .place) (l .at) (a .count) (l .i) (c .before .before .before .before .loop-test .taken) ∙ l .inv .4,
     )
 

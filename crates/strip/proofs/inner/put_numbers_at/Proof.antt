@@ -1,7 +1,7 @@
 -- `put_numbers_at` meets its contract: the six numbers stored are those of the record at the place (`numbers-in`). Assumes nothing.
 use mathlib.Core.Path.{ap, _∙_}
 use lib.Seq.{sets}
-use Rattle.strip.specs.BitsLaws.{numbers-in}
+use Rattle.strip.proofs.BitsLaws.{numbers-in}
 use borrow.Author.Needs.{needs}
 use Rattle.strip.proofs.inner.put_numbers_at.Statement.{statement}
 use Rattle.strip.proofs.inner.put_numbers_at.Tie as tie

@@ -5,7 +5,7 @@ use Prim.Native.Nat.{ℕ, _/_, _%_, _^_}
 use native.Mathlib.Omega.{arith}
 use lib.ListN.{length-set}
 use lib.Seq.{sets}
-use Rattle.strip.specs.ListLaws.{six-stored}
+use Rattle.strip.proofs.ListLaws.{six-stored}
 use borrow.Author.Needs.{needs}
 use Rattle.strip.proofs.inner.put_parts.Statement.{statement}
 use Rattle.strip.proofs.inner.put_parts.Tie as tie

@@ -6,11 +6,12 @@ use mir.Syntax.{w16}
 use mir.ValLaws.{toZ-ofZ}
 use Rattle.bits.specs.declared.Order.the-variants.{Big}
 use Rattle.bits.specs.Signed.{signed, pattern}
-use Rattle.sign.specs.SignedLaws.{pattern-lt, signed-pattern}
+use Rattle.sign.proofs.SignedLaws.{pattern-lt, signed-pattern}
 use Rattle.packing.specs.Packing.{put, putOut}
-use Rattle.record.specs.Record.{Fits}
+use Rattle.record.specs.Record.{Fits, recordBits}
 use Rattle.strip.specs.Bits.{bitsOf}
-use Rattle.strip.specs.FitLaws.{fits-true, withMagnitude}
+use Rattle.record.proofs.FitLaws.{fits-true}
+use Rattle.strip.proofs.FitLaws.{withMagnitude}
 use borrow.Author.Needs.{needs}
 use Rattle.strip.proofs.inner.put_record.Statement.{statement}
 use Rattle.strip.proofs.inner.put_record.Tie as tie
@@ -30,20 +31,20 @@ cast-put-six-3 c = search needs
 cast-put-six-4 : tie.Need-cast-put-six-4
 cast-put-six-4 c = search needs
 
+fit : (s : tie.Start) → Fits (s .args .found)
+fit s = fits-true (s .args .found) (s .pre .2)
+
 -- the bits found are the magnitude's
 sixteen : (c : tie.After-magnitude-bits) → c .magnitude-bits .result ≡ pattern 16 (c .before .before .before .before .before .before .args .found .magnitude)
 sixteen c =
-    c .magnitude-bits .ensures
-    ∙ ap (pattern 16) (toZ-ofZ w16 (c .before .before .before .before .before .before .args .found .magnitude) (record { sfits = c .before .struct-told .given .1 .1 .1 .0 .1 }))
-
-fit : (c : tie.After-struct-told) → Fits (c .before .before .before .before .before .args .found)
-fit c = let s = c .before .before .before .before .before in fits-true (s .args .found) (s .pre .2) (c .struct-told .given .1 .1 .1 .0 .1)
+    let s = c .before .before .before .before .before .before in
+    c .magnitude-bits .ensures ∙ ap (pattern 16) (toZ-ofZ w16 (s .args .found .magnitude) (record { sfits = fit s .magnitude }))
 
 put-six-requires : tie.Need-put-six-requires
 put-six-requires c κs =
     let told = c .before .before .before in
     let s = told .before .before .before .before .before in
-    let f = fit told in
+    let f = fit s in
     (s .pre .0, s .pre .1, f .star, f .date, f .limit, subst (λ (n : ℕ). n < 2 ^ 16) (sym (sixteen (c .before .before))) (pattern-lt 16 (s .args .found .magnitude)), f .error, f .filter)
 
 same-length : tie.Need-same-length
@@ -53,11 +54,12 @@ returns : tie.Need-returns
 returns c =
     let put-at = c .before .before in
     let told = put-at .before .before .before .before in
-    let a = told .before .before .before .before .before .args in
+    let s = told .before .before .before .before .before in
+    let a = s .args in
     let r = a .found in
-    let m = ap (signed 16) (sixteen (put-at .before .before .before)) ∙ signed-pattern 15 (r .magnitude) (fit told .magnitude) in
+    let m = ap (signed 16) (sixteen (put-at .before .before .before)) ∙ signed-pattern 15 (r .magnitude) (fit s .magnitude) in
     let same = ap (λ (z : ℤ). bitsOf (withMagnitude r z)) m in
-    (put-at .put-six .ensures .0 ∙ ap (put Big (a .c) 89) same, put-at .put-six .ensures .1 ∙ ap (putOut Big (a .out .now) (a .c) 89) same)
+    (put-at .put-six .ensures .0 ∙ ap (put Big (a .c) recordBits) same, put-at .put-six .ensures .1 ∙ ap (putOut Big (a .out .now) (a .c) recordBits) same)
 
 pub put-record-spec : {M : Type 1} → statement M
 put-record-spec =

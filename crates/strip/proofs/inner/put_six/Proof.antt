@@ -7,8 +7,9 @@ use lib.ListN.{length}
 use Rattle.bits.specs.declared.Order.the-variants.{Big}
 use Rattle.packing.specs.declared.State.{State}
 use Rattle.packing.specs.Packing.{bitsWritten, put, putOut}
-use Rattle.packing.specs.PutLaws.{put-put, put-put-out, put-next}
-use Rattle.strip.specs.BitsLaws.{bits-in-two}
+use Rattle.packing.proofs.PutLaws.{put-put, put-put-out, put-next}
+use Rattle.record.specs.Record.{recordBits}
+use Rattle.strip.proofs.BitsLaws.{bits-in-two}
 use borrow.Author.Needs.{needs}
 use Rattle.strip.proofs.inner.put_six.Statement.{statement}
 use Rattle.strip.proofs.inner.put_six.Tie as tie
@@ -56,12 +57,12 @@ add-low-3 c = search needs
 add-low-4 : tie.Need-add-low-4
 add-low-4 c = search needs
 
-put-short-requires : tie.Need-put-short-requires
-put-short-requires c κs = search needs
+put-bits-requires : tie.Need-put-bits-requires
+put-bits-requires c κs = search needs
 
-put-short-requires-2 : tie.Need-put-short-requires-2
-put-short-requires-2 c κs =
-    let one = c .before .before .before .put-short in
+put-bits-requires-2 : tie.Need-put-bits-requires-2
+put-bits-requires-2 c κs =
+    let one = c .before .before .before .put-bits in
     let s = c .before .before .before .before .before .before in
     let a = s .args in
     let room : bitsWritten (a .c) + (56 + 33) ≤ 8 * length (a .out .now) = omega arith in
@@ -73,14 +74,14 @@ same-length c = search needs
 
 returns : tie.Need-returns
 returns c =
-    let two = c .before .before .put-short2 in
-    let one = c .before .before .before .before .before .before .put-short in
+    let two = c .before .before .put-bits2 in
+    let one = c .before .before .before .before .before .before .put-bits in
     let s = c .before .before .before .before .before .before .before .before .before in
     let a = s .args in
     let bits = bits-in-two (a .star) (a .date) (a .limit) (a .magnitude) (a .error) (a .filter) (s .pre .5) in (
-      two .ensures .0 ∙ ap (λ (d : State). put Big d 33 (low s)) (one .ensures .0) ∙ put-put Big (a .c) (s .pre .0 .small) 56 33 (high-lt s) (low-lt s) ∙ ap (put Big (a .c) 89) bits,
+      two .ensures .0 ∙ ap (λ (d : State). put Big d 33 (low s)) (one .ensures .0) ∙ put-put Big (a .c) (s .pre .0 .small) 56 33 (high-lt s) (low-lt s) ∙ ap (put Big (a .c) recordBits) bits,
       two .ensures .1 ∙ ap₂ (λ (t : List ℕ) (d : State). putOut Big t d 33 (low s)) (one .ensures .1) (one .ensures .0) ∙ put-put-out Big (a .c) (s .pre .0 .small) 56 33 (high-lt s) (low-lt s) (a .out .now)
-          ∙ ap (putOut Big (a .out .now) (a .c) 89) bits,
+          ∙ ap (putOut Big (a .out .now) (a .c) recordBits) bits,
     )
 
 pub put-six-spec : {M : Type 1} → statement M
@@ -97,7 +98,7 @@ put-six-spec =
     mul-low-4
     add-low-3
     add-low-4
-    put-short-requires
-    put-short-requires-2
+    put-bits-requires
+    put-bits-requires-2
     same-length
     returns)

@@ -1,4 +1,4 @@
--- `put_strip` meets its contract: what is still to be put from here is what was to be put at first (`midway-step`). Assumes nothing.
+-- `put_strip` meets its contract: what is still to be put from here is what was to be put at first (`underway-step`). Assumes nothing.
 use mathlib.Core.Path.{_≡_, sym, ap, _∙_, subst}
 use Prim.Native.Nat.{_+_, _-_, _*_, _≤_}
 use native.Mathlib.Nat.{mod-lt}
@@ -7,17 +7,17 @@ use lib.ListN.{length}
 use lib.Pow.{pow-pos}
 use Rattle.bits.specs.declared.Order.the-variants.{Big}
 use Rattle.packing.specs.Packing.{bitsWritten, Belongs, put, putOut}
-use Rattle.packing.specs.PutLaws.{put-length}
+use Rattle.packing.proofs.PutLaws.{put-length}
 use Rattle.writer.specs.declared.Writer.{Writer}
 use Rattle.writer.specs.Writer.{stateIn, writerWith, padding}
 use Rattle.record.specs.Record.{Fits, recordBits}
-use Rattle.strip.specs.ListLaws.{recordFrom}
-use Rattle.strip.specs.MidwayLaws.{Midway, midway-start, midway-fits, midway-room, midway-step, midway-length, midway-out}
+use Rattle.strip.proofs.ListLaws.{recordFrom}
+use Rattle.strip.proofs.UnderwayLaws.{Underway, underway-start, underway-fits, underway-room, underway-step, underway-length, underway-out}
 use Rattle.strip.proofs.inner.put_strip.Statement.{statement}
 use Rattle.strip.proofs.inner.put_strip.Tie as tie
 
 abbrev Inv-loop : tie.InvT-loop
-Inv-loop numbers n out₀ c₀ i₀ at₀ out c i at = Midway numbers n out₀ out c i at
+Inv-loop numbers n out₀ c₀ i₀ at₀ out c i at = Underway numbers n out₀ out c i at
 
 abbrev μ-loop : tie.MeasureT-loop
 μ-loop numbers n out₀ c₀ i₀ at₀ out c i at = n - i
@@ -27,20 +27,20 @@ fit : (c : tie.In-loop Inv-loop μ-loop) → Fits (recordFrom (c .before .before
 fit c =
     let a = c .before .before .before .before .args in
     let l = c .before .loop in
-    midway-fits (a .numbers .now) (a .n) (a .out .now) (l .out) (l .c) (l .i) (l .at) (l .inv) (c .loop-test .taken) .0
+    underway-fits (a .numbers .now) (a .n) (a .out .now) (l .out) (l .c) (l .i) (l .at) (l .inv) (c .loop-test .taken) .0
 
 room : (c : tie.In-loop Inv-loop μ-loop) → bitsWritten (c .before .loop .c) + recordBits ≤ 8 * length (c .before .loop .out)
 room c =
     let s = c .before .before .before .before in
     let l = c .before .loop in
-    midway-room (s .args .numbers .now) (s .args .n) (s .args .out .now) (l .out) (l .c) (l .i) (l .at) (l .inv) (c .loop-test .taken) (s .pre .1)
+    underway-room (s .args .numbers .now) (s .args .n) (s .args .out .now) (l .out) (l .c) (l .i) (l .at) (l .inv) (c .loop-test .taken) (s .pre .1)
 
 -- the output after the flush
 memory : (c : tie.After-flush Inv-loop μ-loop) → let l = c .before .before .before .before .loop in c .flush .last .1 .0 ≡ putOut Big (l .out) (l .c) (padding (writerWith (l .c))) 0
 memory c = c .flush .ensures .1 ∙ ap (λ (w : Writer). putOut Big (c .before .before .before .before .loop .out) (stateIn w) (padding w) 0) (c .before .writer-with .ensures)
 
 loop-holds : tie.Need-loop-holds Inv-loop μ-loop
-loop-holds c = let s = c .before .before in midway-start (s .args .numbers .now) (s .args .n) (s .args .out .now) (s .pre .2) (s .pre .0) (s .pre .3)
+loop-holds c = let s = c .before .before in underway-start (s .args .numbers .now) (s .args .n) (s .args .out .now) (s .pre .2) (s .pre .0) (s .pre .3)
 
 mul-put-six : tie.Need-mul-put-six Inv-loop μ-loop
 mul-put-six c = omega arith
@@ -98,7 +98,7 @@ put-six-requires c κs =
     let test = c .before .before .before .before .before .before .before in
     let l = test .before .loop in
     let f = fit test in
-    (l .inv .belongs, room test, f .star, f .date, f .limit, mod-lt _ (pow-pos 16), f .error, f .filter)
+    (l .inv .midway .belongs, room test, f .star, f .date, f .limit, mod-lt _ (pow-pos 16), f .error, f .filter)
 
 add-i : tie.Need-add-i Inv-loop μ-loop
 add-i c = omega arith
@@ -117,7 +117,7 @@ loop-again c =
     let s = test .before .before .before .before in
     let a = s .args in
     let l = test .before .loop in
-    midway-step (a .numbers .now) (a .n) (a .out .now) (l .out) (l .c) (l .i) (l .at) (l .inv) (test .loop-test .taken) (s .pre .1)
+    underway-step (a .numbers .now) (a .n) (a .out .now) (l .out) (l .c) (l .i) (l .at) (l .inv) (test .loop-test .taken) (s .pre .1)
     (word .shared-slice-known5 .given (l .at + 3) .fits) (put-at .put-six .last .0) (put-at .put-six .result) (put-at .put-six .ensures .1) (put-at .put-six .ensures .0)
 
 writer-with-requires : tie.Need-writer-with-requires Inv-loop μ-loop
@@ -126,13 +126,13 @@ writer-with-requires c κs = tt
 flush-requires : tie.Need-flush-requires Inv-loop μ-loop
 flush-requires c κs =
     let l = c .before .before .before .loop in
-    subst (λ (w : Writer). Belongs (length (l .out)) (stateIn w)) (sym (c .writer-with .ensures)) (l .inv .belongs)
+    subst (λ (w : Writer). Belongs (length (l .out)) (stateIn w)) (sym (c .writer-with .ensures)) (l .inv .midway .belongs)
 
 same-length : tie.Need-same-length Inv-loop μ-loop
 same-length c =
     let done = c .before .before in
     let l = done .before .before .before .before .loop in
-    ap length (memory done) ∙ put-length Big (l .c) (padding (writerWith (l .c))) 0 (l .out) ∙ l .inv .same
+    ap length (memory done) ∙ put-length Big (l .c) (padding (writerWith (l .c))) 0 (l .out) ∙ l .inv .midway .same
 
 returns : tie.Need-returns Inv-loop μ-loop
 returns c =
@@ -141,8 +141,8 @@ returns c =
     let a = last .before .before .before .before .args in
     let l = last .before .loop in (
       ap (λ (w : Writer). w .written) (done .flush .ensures .0 ∙ ap (λ (w : Writer). writerWith (put Big (stateIn w) (padding w) 0)) (done .before .writer-with .ensures))
-          ∙ midway-length (a .numbers .now) (a .n) (a .out .now) (l .out) (l .c) (l .i) (l .at) (l .inv) (last .loop-test .left),
-      memory done ∙ midway-out (a .numbers .now) (a .n) (a .out .now) (l .out) (l .c) (l .i) (l .at) (l .inv) (last .loop-test .left),
+          ∙ underway-length (a .numbers .now) (a .n) (a .out .now) (l .out) (l .c) (l .i) (l .at) (l .inv) (last .loop-test .left),
+      memory done ∙ underway-out (a .numbers .now) (a .n) (a .out .now) (l .out) (l .c) (l .i) (l .at) (l .inv) (last .loop-test .left),
     )
 
 pub put-strip-spec : {M : Type 1} → statement M

@@ -7,11 +7,11 @@ use lib.Pow.{pow-pos}
 use mir.Syntax.{w16, w64}
 use mir.Val.{SFits, toZ, ofZ}
 use Rattle.bits.specs.declared.Order.the-variants.{Big}
-use Rattle.bits.specs.FieldLaws.{field-lt}
+use Rattle.bits.proofs.FieldLaws.{field-lt}
 use Rattle.bits.specs.Signed.{signed}
-use Rattle.sign.specs.SignedLaws.{narrowed}
+use Rattle.sign.proofs.SignedLaws.{narrowed}
 use Rattle.strip.specs.Bits.{recordAt}
-use Rattle.strip.specs.BitsLaws.{limit-in, magnitude-in, error-in, filter-in}
+use Rattle.strip.proofs.BitsLaws.{limit-in, magnitude-in, error-in, filter-in}
 use borrow.Author.Needs.{needs}
 use Rattle.strip.proofs.inner.record_at.Statement.{statement}
 use Rattle.strip.proofs.inner.record_at.Tie as tie

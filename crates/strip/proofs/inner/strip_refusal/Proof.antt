@@ -6,9 +6,10 @@ use Prim.Native.Nat.{ℕ, _*_, _/_, _<_, _≤_, min}
 use native.Mathlib.Omega.{arith}
 use lib.ListN.{length}
 use borrow.Author.Tests.{lt-ltb, le-ltb}
+use Rattle.bits.specs.Refusals.{orElse, firstRefusal}
 use Rattle.strip.specs.Strip.{recordsIn, allFit, stripLength}
 use Rattle.strip.specs.Answers.{stripRefusal}
-use Rattle.strip.specs.ListLaws.{whole-records}
+use Rattle.strip.proofs.ListLaws.{whole-records}
 use borrow.Author.Needs.{needs}
 use Rattle.strip.proofs.inner.strip_refusal.Statement.{statement}
 use Rattle.strip.proofs.inner.strip_refusal.Tie as tie
@@ -23,40 +24,57 @@ all-is c =
     c .all-fit .ensures ∙ ap (λ (k : ℕ). allFit (recordsIn k (a .numbers .now))) (there-is (c .before)) ∙ sym (ap allFit (whole-records (a .n) (a .numbers .now)))
 
 returns : tie.Need-returns
-unfolding stripRefusal
+unfolding stripRefusal firstRefusal orElse
 returns c = rw (lt-ltb _ _ (c .if1 .taken))
 
 all-fit-requires : tie.Need-all-fit-requires
 all-fit-requires c κs = omega (arith, there-is c)
 
 returns-2 : tie.Need-returns-2
-unfolding stripRefusal
+unfolding stripRefusal firstRefusal orElse
 returns-2 c =
     let a = c .before .before .before .before .before .before .args in
     let few : length (a .numbers .now) < 6 * a .n = omega (arith, there-is (c .before .before .before)) in
-    rw (le-ltb _ _ (c .before .before .before .before .if1 .left), ← all-is (c .before .before), c .before .if3 .taken, lt-ltb (length (a .numbers .now)) (6 * a .n) few)
+    rw (
+      le-ltb _ _ (c .before .before .before .before .if1 .left),
+      ← all-is (c .before .before),
+      c .before .if3 .taken,
+      lt-ltb (length (a .numbers .now)) (6 * a .n) few,
+    )
 
 mul-if5 : tie.Need-mul-if5
 mul-if5 c = search needs
 
 returns-3 : tie.Need-returns-3
-unfolding stripRefusal
+unfolding stripRefusal firstRefusal orElse
 returns-3 c =
     let a = c .before .before .before .before .before .before .before .args in
     let enough : 6 * a .n ≤ length (a .numbers .now) = omega (arith, there-is (c .before .before .before .before)) in
     let short : a .len < stripLength (a .n) = omega arith in
-    rw (le-ltb _ _ (c .before .before .before .before .before .if1 .left), ← all-is (c .before .before .before), c .before .before .if3 .taken, le-ltb (length (a .numbers .now)) (6 * a .n) enough, lt-ltb (a .len) (stripLength (a .n)) short)
+    rw (
+      le-ltb _ _ (c .before .before .before .before .before .if1 .left),
+      ← all-is (c .before .before .before),
+      c .before .before .if3 .taken,
+      le-ltb (length (a .numbers .now)) (6 * a .n) enough,
+      lt-ltb (a .len) (stripLength (a .n)) short,
+    )
 
 returns-4 : tie.Need-returns-4
-unfolding stripRefusal
+unfolding stripRefusal firstRefusal orElse
 returns-4 c =
     let a = c .before .before .before .before .before .before .before .args in
     let enough : 6 * a .n ≤ length (a .numbers .now) = omega (arith, there-is (c .before .before .before .before)) in
     let room : stripLength (a .n) ≤ a .len = omega arith in
-    rw (le-ltb _ _ (c .before .before .before .before .before .if1 .left), ← all-is (c .before .before .before), c .before .before .if3 .taken, le-ltb (length (a .numbers .now)) (6 * a .n) enough, le-ltb (a .len) (stripLength (a .n)) room)
+    rw (
+      le-ltb _ _ (c .before .before .before .before .before .if1 .left),
+      ← all-is (c .before .before .before),
+      c .before .before .if3 .taken,
+      le-ltb (length (a .numbers .now)) (6 * a .n) enough,
+      le-ltb (a .len) (stripLength (a .n)) room,
+    )
 
 returns-5 : tie.Need-returns-5
-unfolding stripRefusal
+unfolding stripRefusal firstRefusal orElse
 returns-5 c = rw (le-ltb _ _ (c .before .before .before .if1 .left), ← all-is (c .before), c .if3 .left)
 
 pub strip-refusal-spec : {M : Type 1} → statement M

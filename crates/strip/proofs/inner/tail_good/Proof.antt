@@ -7,6 +7,7 @@ use lib.ListN.{length}
 use borrow.Author.Tests.{lt-ltb, le-ltb}
 use Rattle.bits.specs.declared.Order.the-variants.{Big}
 use Rattle.bits.specs.Field.{field}
+use Rattle.record.specs.Record.{recordBits}
 use Rattle.strip.specs.Strip.{tailGood}
 use borrow.Author.Needs.{needs}
 use Rattle.strip.proofs.inner.tail_good.Statement.{statement}
@@ -32,8 +33,8 @@ unfolding tailGood
 returns c =
     let s = c .before .before .before .args .src .now in
     let n = 8 * length s in
-    let e : n - n % 89 ≡ 89 * (n / 89) = omega arith in
-    rw (lt-ltb (n % 89) 8 (c .before .if1 .taken)) (ap (λ (v : ℕ). eqb v 0) (c .short-field .ensures ∙ ap (λ (p : ℕ). field Big s p (n % 89)) e))
+    let e : n - n % recordBits ≡ recordBits * (n / recordBits) = omega arith in
+    rw (lt-ltb (n % recordBits) 8 (c .before .if1 .taken)) (ap (λ (v : ℕ). eqb v 0) (c .short-field .ensures ∙ ap (λ (p : ℕ). field Big s p (n % recordBits)) e))
 
 returns-2 : tie.Need-returns-2
 unfolding tailGood

@@ -5,7 +5,7 @@ use Prim.Native.Nat.{_-_}
 use lib.ListN.{length, drop}
 use native.Mathlib.Omega.{arith}
 use Rattle.line.specs.Reading.{begins}
-use Rattle.text.specs.LinesLaws.{Left, left-start, left-next, left-bad, left-end}
+use Rattle.text.proofs.LinesLaws.{Left, left-start, left-next, left-bad, left-end}
 use Rattle.text.proofs.inner.count_lines.Statement.{statement}
 use Rattle.text.proofs.inner.count_lines.Tie as tie
 

@@ -8,15 +8,15 @@ use lib.Dec.{eqb}
 use native.Mathlib.Omega.{arith}
 use borrow.Author.Tests.{eq-eqb, ne-eqb}
 use Rattle.text.specs.Text.{header, headed}
-use Rattle.text.specs.HeaderLaws.{headerBytes, header-is, headed-next, headed-short}
+use Rattle.text.proofs.HeaderLaws.{headerBytes, header-is, headerLength, headed-next, headed-short}
 use Rattle.text.proofs.inner.has_header.Statement.{statement}
 use Rattle.text.proofs.inner.has_header.Tie as tie
 
 abbrev Inv-loop : tie.InvT-loop
-Inv-loop text i₀ i = (31 ≤ length text) × (i ≤ 31) × (headed (drop i headerBytes) (drop i text) ≡ headed headerBytes text)
+Inv-loop text i₀ i = (headerLength ≤ length text) × (i ≤ headerLength) × (headed (drop i headerBytes) (drop i text) ≡ headed headerBytes text)
 
 abbrev μ-loop : tie.MeasureT-loop
-μ-loop text i₀ i = 31 - i
+μ-loop text i₀ i = headerLength - i
 
 all-is : (t : List ℕ) → headed header t ≡ headed headerBytes t
 all-is t = ap (λ (h : List ℕ). headed h t) header-is
@@ -65,7 +65,7 @@ returns-3 : tie.Need-returns-3 Inv-loop μ-loop
 unfolding headed
 returns-3 c =
     let t = c .before .before .before .args .text .now in
-    let e : 31 ≡ c .before .loop .k = omega arith in
+    let e : headerLength ≡ c .before .loop .k = omega arith in
     ap (λ (k : ℕ). headed (drop k headerBytes) (drop k t)) e ∙ c .before .loop .inv .2 ∙ sym (all-is t)
 
 pub has-header-spec : {M : Type 1} → statement M

@@ -3,19 +3,20 @@ use Prim.Native.Nat.{_<_, _≤_}
 use lib.ListN.{length}
 use native.Mathlib.Omega.{arith}
 use borrow.Author.Tests.{lt-ltb, le-ltb}
+use Rattle.bits.specs.Refusals.{orElse, firstRefusal}
 use Rattle.text.specs.Text.{textOf}
 use Rattle.text.specs.Answers.{listRefusal}
-use Rattle.text.specs.ListLaws.{text-few}
+use Rattle.text.proofs.ListLaws.{text-few}
 use borrow.Author.Needs.{needs}
 use Rattle.text.proofs.inner.list_refusal.Statement.{statement}
 use Rattle.text.proofs.inner.list_refusal.Tie as tie
 
 returns : tie.Need-returns
-unfolding listRefusal
+unfolding listRefusal firstRefusal orElse
 returns c = rw (lt-ltb _ _ (c .if1 .taken))
 
 returns-2 : tie.Need-returns-2
-unfolding listRefusal
+unfolding listRefusal firstRefusal orElse
 returns-2 c = rw (le-ltb _ _ (c .before .if1 .left), lt-ltb _ _ (c .if2 .taken))
 
 mul-if3 : tie.Need-mul-if3
@@ -27,8 +28,11 @@ mul-if3-2 c = search needs
 add-if3 : tie.Need-add-if3
 add-if3 c = search needs
 
+add-if3-2 : tie.Need-add-if3-2
+add-if3-2 c = search needs
+
 returns-3 : tie.Need-returns-3
-unfolding listRefusal
+unfolding listRefusal firstRefusal orElse
 returns-3 c =
     let a = c .before .before .before .before .args in
     let few = text-few (a .strip .now) in
@@ -39,7 +43,7 @@ text-size-requires : tie.Need-text-size-requires
 text-size-requires c κs = search needs
 
 returns-4 : tie.Need-returns-4
-unfolding listRefusal
+unfolding listRefusal firstRefusal orElse
 returns-4 c =
     let a = c .before .before .before .before .before .before .args in
     let e = c .before .text-size .ensures in
@@ -47,7 +51,7 @@ returns-4 c =
     rw (le-ltb _ _ (c .before .before .before .before .if1 .left), le-ltb _ _ (c .before .before .before .if2 .left), lt-ltb _ _ h)
 
 returns-5 : tie.Need-returns-5
-unfolding listRefusal
+unfolding listRefusal firstRefusal orElse
 returns-5 c =
     let a = c .before .before .before .before .before .before .args in
     let e = c .before .text-size .ensures in
@@ -63,6 +67,7 @@ list-refusal-spec =
     mul-if3
     mul-if3-2
     add-if3
+    add-if3-2
     returns-3
     text-size-requires
     returns-4

@@ -3,9 +3,10 @@ use mathlib.Core.Path.{_≡_, sym, ap, _∙_}
 use lib.ListN.{length}
 use native.Mathlib.Omega.{arith}
 use Rattle.text.specs.declared.inner.Counted.{Counted}
-use Rattle.text.specs.Text.{bodyOf}
-use Rattle.text.specs.LinesLaws.{body-few}
-use Rattle.text.specs.AnswerLaws.{header-fits, long-text, long-out, other-header, bad-line, no-room, has-room}
+use Rattle.text.specs.Text.{header, bodyOf}
+use Rattle.text.proofs.HeaderLaws.{headed-long}
+use Rattle.text.proofs.LinesLaws.{body-few}
+use Rattle.text.proofs.AnswerLaws.{long-text, long-out, other-header, bad-line, no-room, has-room}
 use borrow.Author.Needs.{needs}
 use Rattle.text.proofs.inner.pack_refusal.Statement.{statement}
 use Rattle.text.proofs.inner.pack_refusal.Tie as tie
@@ -33,7 +34,7 @@ has-header-requires : tie.Need-has-header-requires
 has-header-requires c κs = search needs
 
 count-lines-requires : tie.Need-count-lines-requires
-count-lines-requires c κs = header-fits (c .before .before .before .before .before .args .text .now) (sym (c .before .has-header .ensures) ∙ c .if3 .taken)
+count-lines-requires c κs = headed-long header (c .before .before .before .before .before .args .text .now) (sym (c .before .has-header .ensures) ∙ c .if3 .taken)
 
 mul-if5 : tie.Need-mul-if5
 mul-if5 c = search needs

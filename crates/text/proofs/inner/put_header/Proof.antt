@@ -4,15 +4,15 @@ use Prim.Native.Nat.{ℕ, _-_, _≤_}
 use lib.ListN.{length, drop, length-set}
 use lib.Seq.{sets}
 use native.Mathlib.Omega.{arith}
-use Rattle.text.specs.HeaderLaws.{headerBytes, header-is, store-next}
+use Rattle.text.proofs.HeaderLaws.{headerBytes, header-is, headerLength, length-header, store-next}
 use Rattle.text.proofs.inner.put_header.Statement.{statement}
 use Rattle.text.proofs.inner.put_header.Tie as tie
 
 abbrev Inv-loop : tie.InvT-loop
-Inv-loop out₀ i₀ out i = (length out ≡ length out₀) × (i ≤ 31) × (sets out i (drop i headerBytes) ≡ sets out₀ 0 headerBytes)
+Inv-loop out₀ i₀ out i = (length out ≡ length out₀) × (i ≤ headerLength) × (sets out i (drop i headerBytes) ≡ sets out₀ 0 headerBytes)
 
 abbrev μ-loop : tie.MeasureT-loop
-μ-loop out₀ i₀ out i = 31 - i
+μ-loop out₀ i₀ out i = headerLength - i
 
 loop-holds : tie.Need-loop-holds Inv-loop μ-loop
 loop-holds c = (refl, omega arith, refl)
@@ -21,7 +21,7 @@ array-read-out : tie.Need-array-read-out Inv-loop μ-loop
 array-read-out c = omega arith
 
 slice-write-out : tie.Need-slice-write-out Inv-loop μ-loop
-slice-write-out c = omega arith
+slice-write-out c = omega (arith, length-header)
 
 add-i : tie.Need-add-i Inv-loop μ-loop
 add-i c = omega arith
@@ -41,7 +41,7 @@ returns : tie.Need-returns Inv-loop μ-loop
 returns c =
     let l = c .before .loop in
     let o = c .before .before .args .out .now in
-    let e : 31 ≡ l .i = omega arith in
+    let e : headerLength ≡ l .i = omega arith in
     ap (λ (k : ℕ). sets (l .out) k (drop k headerBytes)) e ∙ l .inv .2 ∙ ap (sets o 0) (sym header-is)
 
 pub put-header-spec : {M : Type 1} → statement M

@@ -6,11 +6,12 @@ use lib.ListN.{length}
 use native.Mathlib.Omega.{arith}
 use Rattle.bits.specs.declared.Order.the-variants.{Big}
 use Rattle.packing.specs.Packing.{Belongs, put, putOut}
-use Rattle.packing.specs.PutLaws.{put-length}
+use Rattle.packing.proofs.PutLaws.{put-length}
 use Rattle.writer.specs.declared.Writer.{Writer}
 use Rattle.writer.specs.Writer.{stateIn, writerWith, padding}
+use Rattle.strip.proofs.MidwayLaws.{midway-length, midway-out}
 use Rattle.text.specs.Text.{bodyOf}
-use Rattle.text.specs.PackLaws.{fits-test, midway-length, midway-out, Underway, underway-start, underway-further, underway-fits, underway-room, underway-step, underway-end}
+use Rattle.text.proofs.PackLaws.{Underway, underway-start, underway-further, underway-fits, underway-room, underway-step, underway-end}
 use Rattle.text.proofs.inner.put_records.Statement.{statement}
 use Rattle.text.proofs.inner.put_records.Tie as tie
 
@@ -35,8 +36,11 @@ put-record-requires c κs =
     let test = c .before .before .before in
     let s = test .before .before .before .before in
     let l = test .before .loop in
-    let found = c .before .before .line-at in
-    (l .inv .midway .belongs, underway-room (s .args .text .now) (s .args .out .now) (l .out) (l .c) (l .at) (l .inv) (test .loop-test .taken) (found .result) (found .ensures) (s .pre .4), fits-test _ (underway-fits (s .args .text .now) (s .args .out .now) (l .out) (l .c) (l .at) (l .inv) (test .loop-test .taken) (found .result) (found .ensures)))
+    let found = c .before .before .line-at in (
+      l .inv .midway .belongs,
+      underway-room (s .args .text .now) (s .args .out .now) (l .out) (l .c) (l .at) (l .inv) (test .loop-test .taken) (found .result) (found .ensures) (s .pre .4),
+      underway-fits (s .args .text .now) (s .args .out .now) (l .out) (l .c) (l .at) (l .inv) (test .loop-test .taken) (found .result) (found .ensures),
+    )
 
 loop-less : tie.Need-loop-less Inv-loop μ-loop
 loop-less c =

@@ -12,15 +12,16 @@ use Rattle.strip.specs.Bits.{recordAt}
 use Rattle.strip.specs.Strip.{recordsFrom, recordsOf, countOf}
 use Rattle.listing.specs.Listing.{lineOf, sizeOf}
 use Rattle.text.specs.Text.{badTail, listed}
-use Rattle.text.specs.ListLaws.{record-fits, linesLeft, all-left, next-size, next-put, none-left, text-size, good-size, bad-size, headPut, good-put, bad-put}
+use Rattle.text.proofs.HeaderLaws.{headerLength, length-header, length-bad-tail}
+use Rattle.text.proofs.ListLaws.{record-fits, linesLeft, all-left, next-size, next-put, none-left, text-size, good-size, bad-size, headPut, good-put, bad-put}
 use Rattle.text.proofs.inner.put_text.Statement.{statement}
 use Rattle.text.proofs.inner.put_text.Tie as tie
 
 abbrev Inv-loop : tie.InvT-loop
 Inv-loop strip out₀ count at₀ i₀ place₀ out at i place =
     (i ≤ count) × (place + recordBits * (count - i) ≤ 8 * length strip) × (length out ≡ length out₀)
-    × (at + length (linesLeft strip place count i) ≡ 31 + length (listed (recordsFrom strip 0 count)))
-    × (sets out at (linesLeft strip place count i) ≡ sets out₀ 31 (listed (recordsFrom strip 0 count)))
+    × (at + length (linesLeft strip place count i) ≡ headerLength + length (listed (recordsFrom strip 0 count)))
+    × (sets out at (linesLeft strip place count i) ≡ sets out₀ headerLength (listed (recordsFrom strip 0 count)))
 
 abbrev μ-loop : tie.MeasureT-loop
 μ-loop strip out₀ count at₀ i₀ place₀ out at i place = count - i
@@ -45,18 +46,18 @@ room c =
 -- behind the last line
 all-lines : (c : tie.After-loop Inv-loop μ-loop) →
     let a = start (c .before) .args in
-    (c .before .loop .at ≡ 31 + length (listed (recordsOf (a .strip .now)))) × (c .before .loop .out ≡ headPut (a .strip .now) (a .out .now))
+    (c .before .loop .at ≡ headerLength + length (listed (recordsOf (a .strip .now)))) × (c .before .loop .out ≡ headPut (a .strip .now) (a .out .now))
 all-lines c =
     let l = c .before .loop in
     let s = start (c .before) .args .strip .now in
     let n = none-left s (l .place) (countOf s) (l .i) (c .loop-test .left) in
     let e = ap length n in (
       omega arith,
-      ap (sets (l .out) (l .at)) (sym n) ∙ l .inv .4 ∙ ap (λ (x : List ℕ). sets x 31 (listed (recordsOf s))) (c .before .before .before .before .put-header .ensures),
+      ap (sets (l .out) (l .at)) (sym n) ∙ l .inv .4 ∙ ap (λ (x : List ℕ). sets x headerLength (listed (recordsOf s))) (c .before .before .before .before .put-header .ensures),
     )
 
 put-header-requires : tie.Need-put-header-requires Inv-loop μ-loop
-put-header-requires c κs = let s = c .before .before .before in let t = text-size (s .args .strip .now) in let p = s .pre .1 in omega arith
+put-header-requires c κs = let s = c .before .before .before in let t = text-size (s .args .strip .now) in let p = s .pre .1 in omega (arith, length-header)
 
 mul-count : tie.Need-mul-count Inv-loop μ-loop
 mul-count c = let p = c .before .before .before .before .before .before .pre .0 in omega arith
@@ -64,7 +65,7 @@ mul-count c = let p = c .before .before .before .before .before .before .pre .0 
 loop-holds : tie.Need-loop-holds Inv-loop μ-loop
 loop-holds c =
     let s = c .before .before .before .before .before .before .args .strip .now in
-    (omega arith, omega arith, refl, ap (λ (l : List ℕ). 31 + length l) (all-left s _), ap (sets (c .before .before .put-header .last .0) 31) (all-left s _))
+    (omega arith, omega arith, refl, ap (λ (l : List ℕ). headerLength + length l) (all-left s _), ap (sets (c .before .before .put-header .last .0) headerLength) (all-left s _))
 
 record-at-requires : tie.Need-record-at-requires Inv-loop μ-loop
 record-at-requires c κs = (omega arith, c .before .before .before .before .before .before .before .before .pre .0)
@@ -130,7 +131,7 @@ put-bad-tail-requires c κs =
     let z = all-lines end .0 in
     let p = start (end .before) .pre .1 in
     let k = same (end .before) in
-    omega arith
+    omega (arith, length-bad-tail)
 
 same-length-2 : tie.Need-same-length-2 Inv-loop μ-loop
 same-length-2 c =
@@ -146,7 +147,7 @@ returns-2 c =
     let a = start (end .before) .args in
     let g = sym (tail .tail-good .ensures) ∙ done .before .before .if1 .left in
     let e = all-lines end in (
-      done .put-bad-tail .ensures .0 ∙ ap (λ (n : ℕ). n + 9) (e .0) ∙ bad-size (a .strip .now) g,
+      done .put-bad-tail .ensures .0 ∙ ap₂ (λ (n k : ℕ). n + k) (e .0) length-bad-tail ∙ bad-size (a .strip .now) g,
       done .put-bad-tail .ensures .1 ∙ ap₂ (λ (x : List ℕ) (k : ℕ). sets x k badTail) (e .1) (e .0) ∙ bad-put (a .strip .now) (a .out .now) g,
     )
 

@@ -10,16 +10,17 @@ use Rattle.record.specs.Record.{Fits, recordBits}
 use Rattle.strip.specs.Bits.{recordAt}
 use Rattle.strip.specs.Strip.{recordsFrom, recordsOf}
 use Rattle.listing.specs.Listing.{sizeOf}
-use Rattle.listing.specs.PieceLaws.{size-few}
+use Rattle.listing.proofs.PieceLaws.{size-few}
 use Rattle.text.specs.Text.{listed}
-use Rattle.text.specs.ListLaws.{record-fits, linesLeft, all-left, next-size, none-left, good-size, bad-size}
+use Rattle.text.proofs.HeaderLaws.{headerLength, badTailLength}
+use Rattle.text.proofs.ListLaws.{record-fits, linesLeft, all-left, next-size, none-left, good-size, bad-size}
 use Rattle.text.proofs.inner.text_size.Statement.{statement}
 use Rattle.text.proofs.inner.text_size.Tie as tie
 
 abbrev Inv-loop : tie.InvT-loop
 Inv-loop strip count size₀ i₀ place₀ size i place =
-    (i ≤ count) × (place + recordBits * (count - i) ≤ 8 * length strip) × (size ≤ 31 + 41 * i)
-    × (size + length (linesLeft strip place count i) ≡ 31 + length (listed (recordsFrom strip 0 count)))
+    (i ≤ count) × (place + recordBits * (count - i) ≤ 8 * length strip) × (size ≤ headerLength + 41 * i)
+    × (size + length (linesLeft strip place count i) ≡ headerLength + length (listed (recordsFrom strip 0 count)))
 
 abbrev μ-loop : tie.MeasureT-loop
 μ-loop strip count size₀ i₀ place₀ size i place = count - i
@@ -30,7 +31,7 @@ mul-count c = omega arith
 loop-holds : tie.Need-loop-holds Inv-loop μ-loop
 loop-holds c =
     let s = c .before .args .strip .now in
-    (omega arith, omega arith, omega arith, ap (λ (l : List ℕ). 31 + length l) (all-left s _))
+    (omega arith, omega arith, omega arith, ap (λ (l : List ℕ). headerLength + length l) (all-left s _))
 
 record-at-requires : tie.Need-record-at-requires Inv-loop μ-loop
 record-at-requires c κs = (omega arith, c .before .before .before .pre)
@@ -74,7 +75,7 @@ tail-good-requires : tie.Need-tail-good-requires Inv-loop μ-loop
 tail-good-requires c κs = c .before .before .before .pre
 
 -- behind the last line
-all-lines : (c : tie.After-loop Inv-loop μ-loop) → c .before .loop .size ≡ 31 + length (listed (recordsOf (c .before .before .before .args .strip .now)))
+all-lines : (c : tie.After-loop Inv-loop μ-loop) → c .before .loop .size ≡ headerLength + length (listed (recordsOf (c .before .before .before .args .strip .now)))
 all-lines c =
     let l = c .before .loop in
     let e = ap length (none-left (c .before .before .before .args .strip .now) (l .place) _ (l .i) (c .loop-test .left)) in
@@ -87,7 +88,7 @@ add-result : tie.Need-add-result Inv-loop μ-loop
 add-result c = omega arith
 
 returns-2 : tie.Need-returns-2 Inv-loop μ-loop
-returns-2 c = ap (λ (n : ℕ). n + 9) (all-lines (c .before .before)) ∙ bad-size (c .before .before .before .before .before .args .strip .now) (sym (c .before .tail-good .ensures) ∙ c .if1 .left)
+returns-2 c = ap (λ (n : ℕ). n + badTailLength) (all-lines (c .before .before)) ∙ bad-size (c .before .before .before .before .before .args .strip .now) (sym (c .before .tail-good .ensures) ∙ c .if1 .left)
 
 pub text-size-spec : {M : Type 1} → statement M
 text-size-spec =

@@ -5,8 +5,8 @@ use native.Mathlib.Omega.{arith}
 use borrow.Fn.Kinds.{In, Out}
 use borrow.Fn.PlainCycle.{Measures, is, falls, and}
 use Rattle.bits.specs.Field.{join, field}
-use Rattle.bits.specs.FieldLaws.{field-lt}
-use Rattle.words.specs.EightLaws.{byte-first}
+use Rattle.bits.proofs.FieldLaws.{field-lt}
+use Rattle.words.proofs.EightLaws.{byte-first}
 use Rattle.words.proofs.inner.load_bytes.Reads as load-bytes
 use Rattle.words.proofs.inner.load_bytes.Kinds as load-bytes-kinds
 use Rattle.words.proofs.inner.+load_bytes.Lts-load_bytes as load-bytes-lts

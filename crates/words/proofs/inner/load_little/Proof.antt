@@ -1,6 +1,6 @@
 -- `load_little` meets its contract: a little-endian field of 64 bits is its eight bytes, the last the most significant (`little8`). Assumes nothing.
 use mathlib.Core.Path.{sym, _∙_}
-use Rattle.words.specs.EightLaws.{little8}
+use Rattle.words.proofs.EightLaws.{little8}
 use borrow.Author.Needs.{needs}
 use Rattle.words.proofs.inner.load_little.Statement.{statement}
 use Rattle.words.proofs.inner.load_little.Tie as tie

@@ -1,7 +1,7 @@
 -- `load_whole` meets its contract: the big-endian field is the little-endian one with its eight bytes swapped (`swapped-field`). Assumes nothing.
 use mathlib.Core.Path.{ap, _∙_}
 use Rattle.words.specs.Eight.{swapped}
-use Rattle.words.specs.EightLaws.{swapped-field}
+use Rattle.words.proofs.EightLaws.{swapped-field}
 use borrow.Author.Needs.{needs}
 use Rattle.words.proofs.inner.load_whole.Statement.{statement}
 use Rattle.words.proofs.inner.load_whole.Tie as tie

@@ -2,7 +2,7 @@
 use mathlib.Core.Path.{ap, _∙_}
 use Prim.Native.Nat.{ℕ, _-_, _%_}
 use Rattle.bits.specs.Word.{first, skipped}
-use Rattle.words.specs.EightLaws.{in-window}
+use Rattle.words.proofs.EightLaws.{in-window}
 use borrow.Author.Needs.{needs}
 use Rattle.words.proofs.inner.whole_field.Statement.{statement}
 use Rattle.words.proofs.inner.whole_field.Tie as tie

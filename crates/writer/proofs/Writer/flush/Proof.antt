@@ -3,10 +3,10 @@ use mathlib.Core.Path.{_≡_, refl, sym, ap, _∙_}
 use lib.ListN.{length}
 use borrow.Author.Needs.{needs}
 use Rattle.packing.specs.Packing.{stateRefusal}
-use Rattle.packing.specs.BelongsLaws.{refusal-belongs}
+use Rattle.packing.proofs.BelongsLaws.{refusal-belongs}
 use Rattle.writer.specs.Writer.{writerRefusal}
 use Rattle.writer.specs.Answers.{flushOf, flushOut}
-use Rattle.writer.specs.AnswerLaws.{refused, answered}
+use Rattle.writer.proofs.AnswerLaws.{refused, answered}
 use Rattle.writer.proofs.Writer.flush.Statement.{statement}
 use Rattle.writer.proofs.Writer.flush.Tie as tie
 

@@ -9,7 +9,7 @@ use borrow.Author.Needs.{needs}
 use Rattle.bits.specs.Refusals.{done}
 use Rattle.writer.specs.Writer.{writeRefusal}
 use Rattle.writer.specs.Answers.{writeOf, writeOut}
-use Rattle.writer.specs.AnswerLaws.{Room, write-passed, write-fits, write-nothing, refused, answered}
+use Rattle.writer.proofs.AnswerLaws.{Room, write-passed, write-fits, write-nothing, refused, answered}
 use Rattle.writer.proofs.Writer.write_bits.Statement.{statement}
 use Rattle.writer.proofs.Writer.write_bits.Tie as tie
 

@@ -3,7 +3,7 @@ use mathlib.Core.Path.{sym, _∙_}
 use lib.ListN.{length}
 use borrow.Author.Needs.{needs}
 use Rattle.writer.specs.Answers.{bytesOf, bytesOut}
-use Rattle.writer.specs.AnswerLaws.{bytes-passed, refused, answered}
+use Rattle.writer.proofs.AnswerLaws.{bytes-passed, refused, answered}
 use Rattle.writer.proofs.Writer.write_bytes.Statement.{statement}
 use Rattle.writer.proofs.Writer.write_bytes.Tie as tie
 

@@ -7,10 +7,10 @@ use borrow.Author.Needs.{needs}
 use mir.Syntax.{w64}
 use mir.ValLaws.{toZ-ofZ}
 use Rattle.bits.specs.Signed.{pattern}
-use Rattle.sign.specs.SignedLaws.{pattern-lt, pattern-low}
+use Rattle.sign.proofs.SignedLaws.{pattern-lt, pattern-low}
 use Rattle.writer.specs.Writer.{signedRefusal}
 use Rattle.writer.specs.Answers.{signedOf, signedOut}
-use Rattle.writer.specs.AnswerLaws.{Room, signed-passed, refused, answered}
+use Rattle.writer.proofs.AnswerLaws.{Room, signed-passed, refused, answered}
 use Rattle.writer.proofs.Writer.write_signed_bits.Statement.{statement}
 use Rattle.writer.proofs.Writer.write_signed_bits.Tie as tie
 

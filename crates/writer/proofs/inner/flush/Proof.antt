@@ -5,7 +5,7 @@ use native.Mathlib.Omega.{arith}
 use lib.Pow.{pow-lt}
 use borrow.Author.Needs.{needs}
 use Rattle.writer.specs.Writer.{writerWith, padding}
-use Rattle.writer.specs.AnswerLaws.{flush-nothing}
+use Rattle.writer.proofs.AnswerLaws.{flush-nothing}
 use Rattle.writer.proofs.inner.flush.Statement.{statement}
 use Rattle.writer.proofs.inner.flush.Tie as tie
 

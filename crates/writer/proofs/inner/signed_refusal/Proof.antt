@@ -2,10 +2,10 @@
 use mathlib.Core.Path.{_≡_, sym, ap, _∙_}
 use native.Mathlib.Omega.{arith}
 use borrow.Author.Needs.{needs}
-use borrow.Author.Tests.{lt-ltb, le-ltb}
-use Rattle.bits.specs.RefusalLaws.{orElse-first, orElse-second}
+use borrow.Author.Tests.{lt-ltb, le-ltb, ne-eqb}
+use Rattle.bits.specs.Refusals.{orElse, firstRefusal}
 use Rattle.packing.specs.Packing.{stateRefusal}
-use Rattle.packing.specs.BelongsLaws.{refusal-belongs}
+use Rattle.packing.proofs.BelongsLaws.{refusal-belongs}
 use Rattle.writer.specs.Writer.{writerRefusal, signedRefusal}
 use Rattle.writer.proofs.inner.signed_refusal.Statement.{statement}
 use Rattle.writer.proofs.inner.signed_refusal.Tie as tie
@@ -20,21 +20,21 @@ told : (c : tie.After-refusal) → writerRefusal (c .before .before .args .len) 
 told c = sym (c .refusal .ensures ∙ ap (stateRefusal (c .before .before .args .len)) (c .before .state-in .ensures))
 
 returns : tie.Need-returns
-unfolding signedRefusal
-returns c = rw (told (c .before), orElse-first _ _ (c .if1 .taken))
+unfolding signedRefusal firstRefusal orElse
+returns c = rw (told (c .before), ne-eqb _ _ (c .if1 .taken))
 
 returns-2 : tie.Need-returns-2
-unfolding signedRefusal
-returns-2 c = rw (orElse-second _ _ (told (c .before .before) ∙ c .before .if1 .left), lt-ltb _ _ (c .if2 .taken))
+unfolding signedRefusal firstRefusal orElse
+returns-2 c = rw (told (c .before .before) ∙ c .before .if1 .left, lt-ltb _ _ (c .if2 .taken))
 
 room-refusal-requires : tie.Need-room-refusal-requires
 room-refusal-requires c κs = (refusal-belongs _ _ (told (c .before .before) ∙ c .before .if1 .left), omega arith)
 
 returns-3 : tie.Need-returns-3
-unfolding signedRefusal
+unfolding signedRefusal firstRefusal orElse
 returns-3 c =
     let l = c .before in
-    rw (orElse-second _ _ (told (l .before .before) ∙ l .before .if1 .left), le-ltb _ _ (l .if2 .left)) (c .room-refusal .ensures)
+    rw (told (l .before .before) ∙ l .before .if1 .left, le-ltb _ _ (l .if2 .left)) (c .room-refusal .ensures)
 
 pub signed-refusal-spec : {M : Type 1} → statement M
 signed-refusal-spec =

@@ -1,5 +1,5 @@
 -- `too_large` meets its contract: above the low n - 1 bits stands more than one bit (`large-test`). Assumes nothing.
-use Rattle.writer.specs.WidthLaws.{large-test}
+use Rattle.writer.proofs.WidthLaws.{large-test}
 use borrow.Author.Needs.{needs}
 use Rattle.writer.proofs.inner.too_large.Statement.{statement}
 use Rattle.writer.proofs.inner.too_large.Tie as tie

@@ -1,0 +1,285 @@
+-- Each statement of specs/Claims.antt, by the theorems of its crate.
+use Prim.Native.Nat.{ℕ, _+_, _*_, _%_, _≤_, _<_}
+use mathlib.Core.Path.{_≡_, refl, sym, ap, _∙_, subst}
+use mathlib.Core.Bool.{true, false}
+use mathlib.Core.List.{List, [], _∷_, map}
+use native.Mathlib.Nat.{add-zero}
+use native.Mathlib.Omega.{arith}
+use lib.ListN.{length}
+use lib.Seq.{sets}
+use lib.Dec.{eqb, ltb}
+use borrow.Author.Tests.{ltb-true, ltb-false, le-ltb, lt-leb, eqb-true}
+use Rattle.bits.specs.declared.Order.{Order}
+use Rattle.bits.specs.Refusals.{longest, done, orElse, firstRefusal, ifDone}
+use Rattle.bits.proofs.RefusalLaws.{passed, test-held, all-pass, if-refused, if-done}
+use Rattle.bits.proofs.TestLaws.{both, by-test}
+use Rattle.sign.specs.Extend.{extendRefusal, extendOf}
+use Rattle.sign.proofs.SignedLaws.{pattern-signed}
+use Rattle.reader.specs.declared.Moved.{Moved}
+use Rattle.reader.specs.declared.ReadU64.{ReadU64}
+use Rattle.reader.specs.Cursor.{bitsLeft}
+use Rattle.reader.specs.Answers as R
+use Rattle.reader.proofs.CursorLaws.{refusal-own, left-inside}
+use Rattle.reader.proofs.AnswerLaws.{read-refusal}
+use Rattle.reader.proofs.ReadLaws.{fresh-done, fresh-belongs, fresh-place, fresh-left, read-refused, read-enough, read-short, read-value, read-place, read-left, read-belongs, peek-value, consume-advanced, refill-advanced, bytes-advanced, bytes-field}
+use Rattle.reader.proofs.RemainderLaws.{remainder-where}
+use Rattle.packing.specs.Packing.{Belongs}
+use Rattle.writer.specs.declared.Writer.{Writer}
+use Rattle.writer.specs.declared.Wrote.{Wrote}
+use Rattle.writer.specs.Writer.{stateIn}
+use Rattle.writer.specs.Answers as W
+use Rattle.writer.proofs.WriteLaws.{Stored, write-stored, signed-stored, bytes-stored, flush-stored}
+use Rattle.packing.proofs.BelongsLaws.{belongs-refusal}
+use Rattle.inplace.proofs.Theorems.{consume-refused, refill-refused}
+use Rattle.typed.proofs.Theorems.{bits-kept, kind-kept, read-number, read-cursor, read-meaning}
+use Rattle.layout.specs.Layout.{isLayout, bitsOf}
+use Rattle.layout.specs.Plan.{compile, decode}
+use Rattle.layout.specs.Check.{isPlan}
+use Rattle.layout.specs.Answers.{compileOf, compileOut, checkOf}
+use Rattle.layout.proofs.LayoutLaws.{layout-of}
+use Rattle.layout.proofs.Theorems.{compiled-passes, compiled-same, plan-layout, plan-length, bytes-items, items-bytes, bytes-layout}
+use Rattle.plan.specs.Run.{runOf, runOut}
+use Rattle.plan.proofs.Theorems as P
+use Rattle.line.specs.declared.LineRead.{LineRead}
+use Rattle.line.specs.Grammar.{Line}
+use Rattle.line.proofs.Theorems.{accepted, acceptable}
+use Rattle.listing.specs.Listing.{writeLine, writeOut}
+use Rattle.listing.proofs.Theorems.{round-trip, five-decimals, line-room}
+use Rattle.strip.specs.declared.StripRead.{StripRead}
+use Rattle.strip.specs.Strip.{allNumbers, countOf, recordsOf, tailGood}
+use Rattle.strip.specs.Answers as S
+use Rattle.strip.proofs.Theorems.{record-there, strip-there-and-back, fields-where, calls-there-and-back}
+use Rattle.roundtrip.specs.Mixed as Trip
+use Rattle.roundtrip.proofs.MixedTrip.{mixed-round-trip}
+use Rattle.text.specs.declared.Packed.{Packed}
+use Rattle.text.specs.Text.{bodyOf}
+use Rattle.text.specs.Answers as X
+use Rattle.text.proofs.AnswerLaws.{pack-tests}
+use Rattle.text.proofs.Theorems.{good-text, text-packs, packed-back}
+use Rattle.host.specs.Host.{hostValue}
+use Rattle.host.proofs.HostLaws.{not-refused, done-within}
+use Rattle.claims.specs.Claims as C
+use Rattle.claims.specs.Claims.{Entry, Fit, none, more, size, written, Stands}
+
+-- ---- what a refusal leaves
+
+kept : {X : Type 0} (e : ℕ) (x y : X) → (e ≡ done → ⊥) → ifDone e x y ≡ y
+kept e x y h = sym (if-refused refl x y h)
+
+-- the refusal number of an answer that is one of two
+number-of : {X : Type 0} (number : X → ℕ) (e : ℕ) (x y : X) → number x ≡ done → number y ≡ e → number (ifDone e x y) ≡ e
+number-of number e x y p q = by-test (eqb e done) (λ t. rw t (p ∙ sym (eqb-true e done t))) (λ t. rw t q)
+
+pub refused-reads : C.RefusedReads
+unfolding R.bytesOf R.bytesOut R.consumeOf R.refillOf
+refused-reads o s c = (
+  λ w h.
+      let e = read-refused o s c w (λ z. h (read-refusal o s c w ∙ z)) in
+      (ap (λ (r : ReadU64). r .value) e, ap (λ (r : ReadU64). r .cursor) e),
+  λ out h. (kept _ _ _ h, kept _ _ _ h),
+  λ n h. kept _ _ _ h,
+  λ h. kept _ _ _ h,
+)
+
+pub refused-writes : C.RefusedWrites
+unfolding W.writeOf W.writeOut W.signedOf W.signedOut W.bytesOf W.bytesOut W.flushOf W.flushOut
+refused-writes o s w = (
+  λ n v h. (kept _ _ _ h, kept _ _ _ h),
+  λ n z h. (kept _ _ _ h, kept _ _ _ h),
+  λ bs h. (kept _ _ _ h, kept _ _ _ h),
+  λ h. (kept _ _ _ h, kept _ _ _ h),
+)
+
+pub refused-runs : C.RefusedRuns
+unfolding runOf runOut
+refused-runs o s c p out h = (kept _ _ _ h, kept _ _ _ h)
+
+pub refused-outputs : C.RefusedOutputs
+unfolding compileOf compileOut S.packOf S.packOut S.stripOf S.packedOut S.listOf S.listOut writeLine writeOut X.listOf X.listOut X.packOf X.packOut
+refused-outputs s out = (
+  λ h. kept _ _ _ h,
+  λ w r h. (kept _ _ _ h, kept _ _ _ h),
+  λ n h. kept _ _ _ h,
+  λ h.
+      let e = S.listRefusal s (length out) in
+      let none : StripRead = record { refusal = e; count = 0; «tail_good» = false } in
+      let all : StripRead = record { refusal = done; count = countOf s; «tail_good» = tailGood s } in
+      kept e (sets out 0 (allNumbers (recordsOf s))) out (λ z. h (number-of (λ (r : StripRead). r .refusal) e all none refl refl ∙ z)),
+  λ r h. kept _ _ _ h,
+  λ h. kept _ _ _ h,
+  λ h. kept _ _ _ h,
+)
+
+pub refused-in-place : C.RefusedInPlace
+refused-in-place o s c d r h = (λ n p. consume-refused h o s c n p, λ p. refill-refused h o s c p)
+
+-- ---- reads
+
+pub fields-read : C.FieldsRead
+fields-read o s c w own wide = (
+  (
+    λ e. by-test (ltb (bitsLeft s c) w) (λ t. ltb-true _ _ t) (λ t. absurd (let z = sym (read-refusal o s c w) ∙ e in omega (arith, z, read-enough o s c w own wide (ltb-false _ _ t)))),
+    λ few. read-refusal o s c w ∙ read-short o s c w own wide few,
+  ),
+  λ enough.
+      let e = read-enough o s c w own wide enough in
+      (read-refusal o s c w ∙ e, read-value o s c w e, read-place o s c w e, read-left o s c w e, read-belongs o s c w e),
+)
+
+pub left-is-inside : C.LeftInside
+left-is-inside o s c own = left-inside (refusal-own own .fits)
+
+pub fresh-cursor : C.FreshCursor
+fresh-cursor o s short = (fresh-done s short, fresh-belongs s short o, fresh-place s, fresh-left s)
+
+pub bytes-read : C.BytesRead
+unfolding R.bytesOf
+bytes-read o s c out e = (bytes-field o s c out e, bytes-advanced o s c (length out) e .ahead)
+
+pub manual-reads : C.ManualReads
+unfolding R.peekOf R.refillOf
+manual-reads o s c = (λ n e. (peek-value o s c n e, consume-advanced o s c n e .ahead), λ e. refill-advanced o s c e .ahead ∙ add-zero _)
+
+pub remainder-is-where : C.RemainderWhere
+remainder-is-where = remainder-where
+
+pub sign-extends : C.SignExtends
+unfolding extendOf extendRefusal firstRefusal orElse
+sign-extends v w wide small = (rw (le-ltb 64 w wide, lt-leb _ _ small), pattern-signed w v small)
+
+pub host-exactly : C.HostExactly
+unfolding hostValue
+host-exactly order p w s = (
+  (λ e. let (wide, within, short) = done-within p w (length s) e in (short, wide, within), λ h. not-refused p w (length s) (h .0) (h .1) (h .2)),
+  λ e. sym (if-done refl _ _ e),
+)
+
+-- ---- writes
+
+-- what a call stored stands
+stand : (o : Order) (s : List ℕ) (w : Writer) {n v : ℕ} {t : List ℕ} {r : Wrote} → Stored o s w n v t r → Stands o s w n v t (r .writer)
+stand o s w {n} {v} {t} {r} x =
+    record {
+      written = x .written;
+      behind = x .stands;
+      full = x .full;
+      untouched = x .untouched;
+      belongs = belongs-refusal (length t) (stateIn (r .writer)) (subst (λ (k : ℕ). Belongs k (stateIn (r .writer))) (sym (x .same-length)) (x .belongs));
+    }
+
+pub writes-stand : C.WritesStand
+unfolding W.writeOf W.signedOf W.bytesOf W.flushOf
+writes-stand o s w = (
+  λ n v z. stand o s w (write-stored o s w n v z),
+  λ n x z. stand o s w (signed-stored o s w n x z),
+  λ bs small z. stand o s w (bytes-stored o s w bs small z),
+  λ z. stand o s w (flush-stored o s w z),
+)
+
+-- ---- what is written is read back
+
+pub all-read-back : C.AllReadBack
+all-read-back = mixed-round-trip
+
+fit-written : {es : List Entry} → Fit es → Trip.Fit (map written es)
+fit-written none = Trip.none
+fit-written (more a b r) = Trip.more (Trip.unsigned-fits a b) (fit-written r)
+
+size-written : (n : ℕ) (es : List Entry) → Trip.size n (map written es) ≡ size es
+unfolding size Trip.size Trip.bits
+size-written n [] = refl
+size-written n (e ∷ es) = ap (λ (k : ℕ). e .width + k) (size-written (n + e .width) es)
+
+pub fields-read-back : C.FieldsReadBack
+fields-read-back o s es short fit room =
+    all-read-back o s (map written es) short (fit-written fit) (subst (λ (k : ℕ). k ≤ 8 * length s) (sym (size-written 0 es)) room)
+
+-- ---- typed values
+
+pub bits-are-kept : C.BitsKept
+bits-are-kept k b h = (bits-kept k b h, kind-kept k b)
+
+pub typed-reads : C.TypedReads
+typed-reads o s c k w = (
+  read-number o s c k w ∙ sym (read-refusal o s c _),
+  read-cursor o s c k w,
+  λ e. read-meaning o s c k w (sym (read-refusal o s c _) ∙ e),
+)
+
+-- ---- plans
+
+pub plan-runs : C.PlanRuns
+plan-runs o s c fs out layout own room = (
+  (
+    λ e. by-test (ltb (bitsLeft s c) (bitsOf fs)) (λ t. ltb-true _ _ t) (λ t. absurd (omega (arith, e, P.compile-run o s c fs out layout own room (ltb-false _ _ t) .0))),
+    λ few. ap (λ (m : Moved). m .refusal) (P.compile-run-short o s c fs out layout own room few .0),
+  ),
+  P.compile-run-short o s c fs out layout own room,
+  λ enough. (
+    P.compile-run o s c fs out layout own room enough .0,
+    P.field-value o s c fs out layout own room enough,
+    P.others-kept o s c fs out layout own room enough,
+    P.compile-run o s c fs out layout own room enough .2,
+    P.compile-run-belongs o s c fs out layout own room enough,
+  ),
+  P.run-reads-refusal o s c fs out layout own room,
+  P.run-reads o s c fs out layout own room,
+)
+
+pub plans-exactly : C.PlansExactly
+unfolding checkOf
+plans-exactly p = (
+  λ e. let plan = test-held (isPlan p) _ (passed _ e .1) in (decode 0 p, plan-layout p plan .0, plan-layout p plan .1),
+  λ l.
+      let plan : isPlan p ≡ true = subst (λ (x : List ℕ). isPlan x ≡ true) (l .2) (compiled-passes (l .0) (l .1)) in
+      let short : length p ≤ longest = omega (arith, plan-length p plan) in
+      all-pass _ (rw (le-ltb longest (length p) short), rw plan),
+)
+
+pub one-layout : C.OneLayout
+one-layout fs gs e f = (compiled-same fs gs (layout-of fs e .1) (layout-of gs f .1), plan-length (compile fs) (compiled-passes fs e))
+
+pub layout-bytes : C.LayoutBytes
+unfolding isLayout
+layout-bytes = (
+  λ fs e. (bytes-layout fs ∙ e, bytes-items fs),
+  λ s e. items-bytes s (eqb-true _ _ (both {a = eqb (length s % 2) 0} e .0)),
+)
+
+-- ---- lines
+
+pub lines-exactly : C.LinesExactly
+lines-exactly s r short = (
+  λ e. subst (Line s) (ap (λ (a : LineRead). a .«record») e) (accepted s (ap (λ (a : LineRead). a .refusal) e)),
+  λ l. acceptable short l,
+)
+
+pub lines-back : C.LinesBack
+lines-back r fit = let (size, few) = line-room r fit in (round-trip r fit, five-decimals r, omega (arith, size, few))
+
+-- ---- records and strips
+
+pub record-back : C.RecordBack
+record-back = record-there
+
+pub strip-back : C.StripBack
+strip-back rs s fit short room =
+    let (records, tail) = strip-there-and-back rs s fit short room in (records, tail, fields-where rs s fit short room)
+
+pub numbers-back : C.NumbersBack
+numbers-back = calls-there-and-back
+
+-- ---- texts
+
+pub texts-pack : C.TextsPack
+texts-pack t out rs short short-out good room = text-packs out good short short-out room
+
+pub texts-exactly : C.TextsExactly
+unfolding X.packOf
+texts-exactly t out short short-out = (
+  λ z. (bodyOf t .records, good-text t (length out) z, pack-tests t (length out) z .4),
+  λ g. ap (λ (a : Packed). a .refusal) (texts-pack t out (g .0) short short-out (g .1) (g .2) .0),
+)
+
+pub texts-back : C.TextsBack
+texts-back = packed-back

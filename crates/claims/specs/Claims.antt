@@ -1,0 +1,302 @@
+-- What is promised, in one place: each name is one sentence over the definitions that the contracts cite, and proofs/Closed.antt closes it.
+-- That each function answers by its definition, never traps and always returns is what its own contract says (src/ of its crate).
+use Prim.Native.Nat.{ℕ, _+_, _-_, _*_, _/_, _%_, _^_, _<_, _≤_}
+use mathlib.Core.Path.{_≡_}
+use mathlib.Core.Logic.{_↔_}
+use mathlib.Core.Bool.{true}
+use mathlib.Core.List.{List, [], _∷_, map}
+use lib.IntN.{ℤ}
+use lib.ListN.{length, take, drop, getD}
+use lib.Seq.{sets}
+use Rattle.bits.specs.declared.Order.{Order}
+use Rattle.bits.specs.declared.Order.the-variants.{Big}
+use Rattle.bits.specs.Refusals.{longest, done, tooFew}
+use Rattle.bits.specs.Field.{field, join}
+use Rattle.bits.specs.Signed.{signed, pattern}
+use Rattle.packing.specs.Packing.{story}
+use Rattle.record.specs.declared.Record.{Record}
+use Rattle.record.specs.Record.{Fits, recordBits, noRecord}
+use Rattle.sign.specs.Extend.{extendOf}
+use Rattle.reader.specs.declared.Cursor.{Cursor}
+use Rattle.reader.specs.Cursor.{place, bitsLeft, cursorRefusal}
+use Rattle.reader.specs.Answers as R
+use Rattle.reader.specs.Answers.{moved}
+use Rattle.writer.specs.declared.Writer.{Writer}
+use Rattle.writer.specs.Writer.{stateIn, bitsWritten, writerRefusal, padding}
+use Rattle.writer.specs.Answers as W
+use Rattle.typed.specs.declared.Kind.{Kind}
+use Rattle.typed.specs.declared.TypedRead.the-variants.{Done}
+use Rattle.typed.specs.Typed.{typedOf, bitsOf as typedBits, kindOf, widthOf, meaning}
+use Rattle.typed.specs.Answers as T
+use Rattle.roundtrip.specs.Mixed as Trip
+use Rattle.layout.specs.Layout.{Item, item, itemsOf, areLayout, isLayout, bitsOf}
+use Rattle.layout.specs.Bytes.{bytesOf}
+use Rattle.layout.specs.Plan.{compile}
+use Rattle.layout.specs.Answers.{compileOf, compileOut, checkOf}
+use Rattle.plan.specs.Run.{patternOf, runOf, runOut}
+use Rattle.plan.specs.FieldReads.{readFields}
+use Rattle.line.specs.Grammar.{Line}
+use Rattle.line.specs.Reading.{lineRead, readLine}
+use Rattle.listing.specs.Listing.{partsOf, lineOf, writeLine, writeOut}
+use Rattle.strip.specs.Bits.{recordAt}
+use Rattle.strip.specs.Strip.{allFit, stripLength, countOf, recordsOf, tailGood}
+use Rattle.strip.specs.Answers as S
+use Rattle.text.specs.declared.Packed.{Packed}
+use Rattle.text.specs.Text.{textOf}
+use Rattle.text.specs.Grammar.{GoodText}
+use Rattle.text.specs.Answers as X
+use Rattle.host.specs.Host.{orderOf, hostRefusal, hostValue}
+
+-- ---- demand 1: a refusal hands back cursor, writer and lent memory as they came
+
+-- by a cursor
+abbrev pub RefusedReads : Type 0
+RefusedReads =
+    (o : Order) (s : List ℕ) (c : Cursor) →
+    ((w : ℕ) → (R.readOf o s c w .refusal ≡ done → ⊥) → (R.readOf o s c w .value ≡ 0) × (R.readOf o s c w .cursor ≡ c))
+    × ((out : List ℕ) → (R.bytesOf o s c (length out) .refusal ≡ done → ⊥) → (R.bytesOf o s c (length out) .cursor ≡ c) × (R.bytesOut o s c out ≡ out))
+    × ((n : ℕ) → (R.consumeOf o s c n .refusal ≡ done → ⊥) → R.consumeOf o s c n .cursor ≡ c)
+    × ((R.refillOf o s c .refusal ≡ done → ⊥) → R.refillOf o s c .cursor ≡ c)
+
+-- into an output
+abbrev pub RefusedWrites : Type 0
+RefusedWrites =
+    (o : Order) (s : List ℕ) (w : Writer) →
+    ((n v : ℕ) → (W.writeOf o (length s) w n v .refusal ≡ done → ⊥) → (W.writeOf o (length s) w n v .writer ≡ w) × (W.writeOut o s w n v ≡ s))
+    × ((n : ℕ) (z : ℤ) → (W.signedOf o (length s) w n z .refusal ≡ done → ⊥) → (W.signedOf o (length s) w n z .writer ≡ w) × (W.signedOut o s w n z ≡ s))
+    × ((bs : List ℕ) → (W.bytesOf o (length s) w bs .refusal ≡ done → ⊥) → (W.bytesOf o (length s) w bs .writer ≡ w) × (W.bytesOut o s w bs ≡ s))
+    × ((W.flushOf o (length s) w .refusal ≡ done → ⊥) → (W.flushOf o (length s) w .writer ≡ w) × (W.flushOut o s w ≡ s))
+
+-- by a plan, a compiler, a list, a record, a line or a text
+abbrev pub RefusedRuns : Type 0
+RefusedRuns =
+    (o : Order) (s : List ℕ) (c : Cursor) (p out : List ℕ) → (runOf o s c p (length out) .refusal ≡ done → ⊥)
+    → (runOf o s c p (length out) .cursor ≡ c) × (runOut o s c p out ≡ out)
+
+abbrev pub RefusedOutputs : Type 0
+RefusedOutputs =
+    (s out : List ℕ) →
+    ((compileOf s (length out) .refusal ≡ done → ⊥) → compileOut s out ≡ out)
+    × ((w : Writer) (r : Record) → (S.packOf (length out) w r .refusal ≡ done → ⊥) → (S.packOf (length out) w r .writer ≡ w) × (S.packOut out w r ≡ out))
+    × ((n : ℕ) → (S.stripOf s n (length out) .refusal ≡ done → ⊥) → S.packedOut s n out ≡ out)
+    × ((S.listOf s (length out) .refusal ≡ done → ⊥) → S.listOut s out ≡ out)
+    × ((r : Record) → (writeLine r (length out) .refusal ≡ done → ⊥) → writeOut r out ≡ out)
+    × ((X.listOf s (length out) .refusal ≡ done → ⊥) → X.listOut s out ≡ out)
+    × ((X.packOf s (length out) .refusal ≡ done → ⊥) → X.packOut s out ≡ out)
+
+-- on a borrowed cursor: r is answered and d left where it stands
+abbrev pub RefusedInPlace : Type 0
+RefusedInPlace =
+    (o : Order) (s : List ℕ) (c d : Cursor) (r : ℕ) → (r ≡ done → ⊥)
+    → ((n : ℕ) → moved r d ≡ R.consumeOf o s c n → d ≡ c) × (moved r d ≡ R.refillOf o s c → d ≡ c)
+
+-- ---- demand 2: reads are by the bit definitions
+
+-- reading w ≤ 64 bits from a cursor that belongs is refused, by 9, exactly if fewer are left; else the value is the field at the place,
+-- the place moves by w, and the cursor belongs again
+abbrev pub FieldsRead : Type 0
+FieldsRead =
+    (o : Order) (s : List ℕ) (c : Cursor) (w : ℕ) → cursorRefusal o s c ≡ done → w ≤ 64 →
+    let r = R.readOf o s c w in
+    ((r .refusal ≡ tooFew) ↔ (bitsLeft s c < w))
+    × (w ≤ bitsLeft s c → (r .refusal ≡ done) × (r .value ≡ field o s (place c) w) × (place (r .cursor) ≡ place c + w) × (bitsLeft s (r .cursor) ≡ bitsLeft s c - w) × (cursorRefusal o s (r .cursor) ≡ done))
+
+-- what is left behind the place lies within the slice
+abbrev pub LeftInside : Type 0
+LeftInside = (o : Order) (s : List ℕ) (c : Cursor) → cursorRefusal o s c ≡ done → place c + bitsLeft s c ≤ 8 * length s
+
+-- a fresh cursor is at place 0, and belongs to every slice within the limit
+abbrev pub FreshCursor : Type 0
+FreshCursor =
+    (o : Order) (s : List ℕ) → length s ≤ longest →
+    let c = R.newOf s .cursor in
+    (R.newOf s .refusal ≡ done) × (cursorRefusal o s c ≡ done) × (place c ≡ 0) × (bitsLeft s c ≡ 8 * length s)
+
+-- bytes are fields of eight bits from the place on, and the place moves by them
+abbrev pub BytesRead : Type 0
+BytesRead =
+    (o : Order) (s : List ℕ) (c : Cursor) (out : List ℕ) → R.bytesOf o s c (length out) .refusal ≡ done →
+    ((i : ℕ) → i < length out → getD (R.bytesOut o s c out) i 0 ≡ field o s (place c + 8 * i) 8)
+    × (place (R.bytesOf o s c (length out) .cursor) ≡ place c + 8 * length out)
+
+-- manual mode: a peek sees the field at the place, a consume passes it, a refill moves no place
+abbrev pub ManualReads : Type 0
+ManualReads =
+    (o : Order) (s : List ℕ) (c : Cursor) →
+    ((n : ℕ) → R.peekOf o s c n .refusal ≡ done → (R.peekOf o s c n .value ≡ field o s (place c) n) × (place (R.consumeOf o s c n .cursor) ≡ place c + n))
+    × (R.refillOf o s c .refusal ≡ done → place (R.refillOf o s c .cursor) ≡ place c)
+
+-- the remainder is the slice from the first byte that starts at the place or behind it; the partial bits are the field up to there
+abbrev pub RemainderWhere : Type 0
+RemainderWhere =
+    (o : Order) (s : List ℕ) (c : Cursor) → cursorRefusal o s c ≡ done →
+    let at = (place c + 7) / 8 in
+    (R.remainderOf o s c ≡ drop at s) × (R.partialOf o s c ≡ record { refusal = done; «partial_bits» = 8 * at - place c; «partial_byte» = field o s (place c) (8 * at - place c) })
+
+-- sign extension gives the signed meaning at every width from 0 to 64, and the bits come back from it
+abbrev pub SignExtends : Type 0
+SignExtends =
+    (v w : ℕ) → w ≤ 64 → v < 2 ^ w → (extendOf v w ≡ record { refusal = done; value = signed w v }) × (pattern w (signed w v) ≡ v)
+
+-- the C host's number is 0 exactly if the field lies within a slice within the limit; the value is that field
+abbrev pub HostExactly : Type 0
+HostExactly =
+    (order p w : ℕ) (s : List ℕ) →
+    ((hostRefusal p w (length s) ≡ done) ↔ ((length s ≤ longest) × (w ≤ 64) × (p + w ≤ 8 * length s)))
+    × (hostRefusal p w (length s) ≡ done → hostValue order p w s ≡ field (orderOf order) s p w)
+
+-- ---- demand 2: writes are by the bit definitions
+
+-- from output s and writer w, n bits v were written, leaving output t and writer x: they stand behind all that was written, as one
+-- number, nothing of which changed; bytes that were full, and those from T div 8 on, are untouched
+pub record Stands (o : Order) (s : List ℕ) (w : Writer) (n v : ℕ) (t : List ℕ) (x : Writer) : Type 0 where
+  pub written : bitsWritten x ≡ bitsWritten w + n
+  pub behind : story o t (stateIn x) ≡ join o (bitsWritten w) n (story o s (stateIn w)) v
+  pub full : (i : ℕ) → i < w .written → getD t i 0 ≡ getD s i 0
+  pub untouched : (i : ℕ) → bitsWritten x / 8 ≤ i → getD t i 0 ≡ getD s i 0
+  pub belongs : writerRefusal (length t) x ≡ done
+
+-- each write that is not refused
+abbrev pub WritesStand : Type 0
+WritesStand =
+    (o : Order) (s : List ℕ) (w : Writer) →
+    ((n v : ℕ) → W.writeOf o (length s) w n v .refusal ≡ done → Stands o s w n (v % 2 ^ n) (W.writeOut o s w n v) (W.writeOf o (length s) w n v .writer))
+    × ((n : ℕ) (z : ℤ) → W.signedOf o (length s) w n z .refusal ≡ done → Stands o s w n (pattern n z) (W.signedOut o s w n z) (W.signedOf o (length s) w n z .writer))
+    × ((bs : List ℕ) → ((i : ℕ) → getD bs i 0 < 256) → W.bytesOf o (length s) w bs .refusal ≡ done
+    → Stands o s w (8 * length bs) (field o bs 0 (8 * length bs)) (W.bytesOut o s w bs) (W.bytesOf o (length s) w bs .writer))
+    × (W.flushOf o (length s) w .refusal ≡ done → Stands o s w (padding w) 0 (W.flushOut o s w) (W.flushOf o (length s) w .writer))
+
+-- ---- demand 2: what a fresh writer writes and flushes, a fresh cursor reads back from the written bytes alone
+
+-- all that a writer takes: unsigned and signed fields, bytes and flushes, in any order
+abbrev pub AllReadBack : Type 0
+AllReadBack =
+    (o : Order) (s : List ℕ) (es : List Trip.Item) → length s ≤ longest → Trip.Fit es → Trip.size 0 es ≤ 8 * length s
+    → Trip.Returned o s es
+
+-- a field to write
+pub record Entry : Type 0 where
+  pub width : ℕ
+  pub value : ℕ
+
+-- entries of 0 to 64 bits, each value below 2 to its width
+pub data Fit : List Entry → Type 0 where
+  none : Fit []
+  more : {e : Entry} {es : List Entry} → e .width ≤ 64 → e .value < 2 ^ e .width → Fit es → Fit (e ∷ es)
+
+-- their bits
+unfoldable pub size : List Entry → ℕ
+size [] = 0
+size (e ∷ es) = e .width + size es
+
+-- the call that writes one
+abbrev pub written : Entry → Trip.Item
+written e = Trip.unsigned (e .width) (e .value)
+
+-- fields that fit and have room come back
+abbrev pub FieldsReadBack : Type 0
+FieldsReadBack =
+    (o : Order) (s : List ℕ) (es : List Entry) → length s ≤ longest → Fit es → size es ≤ 8 * length s
+    → Trip.Returned o s (map written es)
+
+-- ---- typed values
+
+-- bits made into a value of a kind and back are the same, a NaN's payload too, and the value's case is the kind
+abbrev pub BitsKept : Type 0
+BitsKept = (k : Kind) (b : ℕ) → b < 2 ^ widthOf k 64 → (typedBits (typedOf k b) ≡ b) × (kindOf (typedOf k b) ≡ k)
+
+-- a typed read refuses and moves as the read of the kind's width, and its value is the field's by the kind's meaning
+abbrev pub TypedReads : Type 0
+TypedReads =
+    (o : Order) (s : List ℕ) (c : Cursor) (k : Kind) (w : ℕ) →
+    let r = R.readOf o s c (widthOf k w) in
+    (T.refusalIn (T.readOf o s c k w) ≡ r .refusal) × (T.cursorIn (T.readOf o s c k w) ≡ r .cursor)
+    × (r .refusal ≡ done → T.readOf o s c k w ≡ Done (meaning k w (field o s (place c) (widthOf k w))) (r .cursor))
+
+-- ---- demand 3: a compiled layout is run to its fields' values
+
+-- of fields fs that are a layout, a cursor c that belongs to the slice s, and results out with room
+abbrev pub PlanRuns : Type 0
+PlanRuns =
+    (o : Order) (s : List ℕ) (c : Cursor) (fs : List Item) (out : List ℕ) → areLayout fs ≡ true → cursorRefusal o s c ≡ done → length fs ≤ length out →
+    let answer = runOf o s c (compile fs) (length out) in
+    let results = runOut o s c (compile fs) out in
+    -- it is refused, by 9, exactly if fewer bits are left than the fields take, and then nothing changes
+    ((answer .refusal ≡ tooFew) ↔ (bitsLeft s c < bitsOf fs))
+    × (bitsLeft s c < bitsOf fs → (answer ≡ moved tooFew c) × (results ≡ out))
+    -- else result i is the value of field i, the others are kept, and the cursor is where the last field ends, and belongs
+    × (bitsOf fs ≤ bitsLeft s c →
+    (answer .refusal ≡ done)
+    × ((i : ℕ) → i < length fs →
+    let f = getD fs i (item 0 0) in
+    getD results i 0 ≡ patternOf (f .kind) (f .width) (field o s (place c + bitsOf (take i fs)) (f .width)))
+    × (drop (length fs) results ≡ drop (length fs) out)
+    × (place (answer .cursor) ≡ place c + bitsOf fs)
+    × (cursorRefusal o s (answer .cursor) ≡ done))
+    -- and refusal, values and end are those of reading field by field
+    × (answer .refusal ≡ readFields o s c fs .refusal)
+    × (bitsOf fs ≤ bitsLeft s c → (results ≡ sets out 0 (readFields o s c fs .values)) × (place (answer .cursor) ≡ place (readFields o s c fs .cursor)))
+
+-- bytes pass the check exactly if some layout compiles to them
+abbrev pub PlansExactly : Type 0
+PlansExactly = (p : List ℕ) → (checkOf p ≡ done) ↔ ((fs : List Item) × (areLayout fs ≡ true) × (compile fs ≡ p))
+
+-- one layout only, and no plan is longer than 256 bytes
+abbrev pub OneLayout : Type 0
+OneLayout = (fs gs : List Item) → areLayout fs ≡ true → areLayout gs ≡ true → (compile fs ≡ compile gs → fs ≡ gs) × (length (compile fs) ≤ 256)
+
+-- the bytes and the fields of a layout are one to one
+abbrev pub LayoutBytes : Type 0
+LayoutBytes = ((fs : List Item) → areLayout fs ≡ true → (isLayout (bytesOf fs) ≡ true) × (itemsOf (bytesOf fs) ≡ fs)) × ((s : List ℕ) → isLayout s ≡ true → bytesOf (itemsOf s) ≡ s)
+
+-- ---- lines
+
+-- a line is accepted, as a record, exactly if it is a line of the grammar that names the record; so it names one at most
+abbrev pub LinesExactly : Type 0
+LinesExactly = (s : List ℕ) (r : Record) → length s ≤ longest → (readLine s ≡ lineRead done r) ↔ Line s r
+
+-- the line of a record that fits is read as that record, has five date decimals and at most 41 bytes
+abbrev pub LinesBack : Type 0
+LinesBack = (r : Record) → Fits r → (readLine (lineOf r) ≡ lineRead done r) × (length (partsOf r .dayDecimals) ≡ 5) × (length (lineOf r) ≤ 41)
+
+-- ---- records and strips
+
+-- a record that was packed behind anything is read where it was packed, after a flush
+abbrev pub RecordBack : Type 0
+RecordBack =
+    (s : List ℕ) (w : Writer) (r : Record) → S.packOf (length s) w r .refusal ≡ done
+    → recordAt (W.flushOut Big (S.packOut s w r) (S.packOf (length s) w r .writer)) (bitsWritten w) ≡ r
+
+-- records that fit, packed and flushed, are read back from the written bytes alone, with a good tail; record i starts at bit 89 i
+abbrev pub StripBack : Type 0
+StripBack =
+    (rs : List Record) (s : List ℕ) → allFit rs ≡ true → length s ≤ longest → stripLength (length rs) ≤ length s →
+    let b = take (stripLength (length rs)) (S.stripOut rs s) in
+    (recordsOf b ≡ rs) × (tailGood b ≡ true) × ((i : ℕ) → i < length rs → recordAt b (recordBits * i) ≡ getD rs i noRecord)
+
+-- numbers of 64 bits that were packed are read back, every one, into any list with room
+abbrev pub NumbersBack : Type 0
+NumbersBack =
+    (ns : List ℕ) (n : ℕ) (s ms : List ℕ) → ((i : ℕ) → getD ns i 0 < 2 ^ 64) → S.stripOf ns n (length s) .refusal ≡ done → 6 * n ≤ length ms →
+    let b = take (S.stripOf ns n (length s) .length) (S.packedOut ns n s) in
+    (S.listOf b (length ms) ≡ record { refusal = done; count = n; «tail_good» = true }) × (take (6 * n) (S.listOut b ms) ≡ take (6 * n) ns)
+
+-- ---- texts
+
+-- a text packs exactly if it is the header and lines of the grammar, and there is room; then into the strip of the records
+abbrev pub TextsExactly : Type 0
+TextsExactly =
+    (t out : List ℕ) → length t ≤ longest → length out ≤ longest
+    → (X.packOf t (length out) .refusal ≡ done) ↔ ((rs : List Record) × GoodText t rs × (stripLength (length rs) ≤ length out))
+
+abbrev pub TextsPack : Type 0
+TextsPack =
+    (t out : List ℕ) (rs : List Record) → length t ≤ longest → length out ≤ longest → GoodText t rs → stripLength (length rs) ≤ length out
+    → (_≡_ {A = Packed} (X.packOf t (length out)) (record { refusal = done; length = stripLength (length rs); line = 0 })) × (X.packOut t out ≡ S.stripOut rs out)
+
+-- the text of a strip with a good tail packs, into a strip with the same records and a good tail
+abbrev pub TextsBack : Type 0
+TextsBack =
+    (s out : List ℕ) → tailGood s ≡ true → length (textOf s) ≤ longest → length out ≤ longest → stripLength (countOf s) ≤ length out →
+    let b = take (X.packOf (textOf s) (length out) .length) (X.packOut (textOf s) out) in
+    (X.packOf (textOf s) (length out) .refusal ≡ done) × (recordsOf b ≡ recordsOf s) × (tailGood b ≡ true)

@@ -1,0 +1,4 @@
+pub mod CountLaws
+pub mod BytesLaws
+mod CountExamples
+pub mod PlaceLaws

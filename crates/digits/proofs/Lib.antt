@@ -1,0 +1,3 @@
+mod RunLaws
+pub mod PartLaws
+pub mod PlaceLaws

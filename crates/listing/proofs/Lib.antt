@@ -1,0 +1,4 @@
+pub mod Theorems
+mod Examples
+pub mod TripLaws
+pub mod PieceLaws

@@ -1,0 +1,2 @@
+mod FirstsLaws
+pub mod OctetsLaws

@@ -1,0 +1,12 @@
+mod PartLaws
+mod BytesLaws
+mod EightBytesLaws
+mod StoredLaws
+pub mod BelongsLaws
+pub mod PutLaws
+pub mod StoryLaws
+mod HeldLaws
+mod PutWordLaws
+mod FrontLaws
+mod StretchLaws
+pub mod PutBytesLaws

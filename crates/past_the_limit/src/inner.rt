@@ -1,0 +1,118 @@
+// The calls by number.
+use bits::Order;
+use reader::Cursor;
+use writer::Writer;
+
+// The calls that read the slice, by number: 0 to 11 the cursor's, 12 to 19 the others.
+#[no_mangle]
+pub extern "C" fn limits_read(call: u32, src: &[u8]) -> u32 {
+    if call < 12 {
+        return read_call(call, src);
+    }
+    other_call(call, src)
+}
+
+// The calls that write the slice, by number: 0 to 6 the writer's, 7 to 11 the others.
+#[no_mangle]
+pub extern "C" fn limits_write(call: u32, out: &mut [u8]) -> u32 {
+    if call < 7 {
+        return write_call(call, out);
+    }
+    fill_call(call, out)
+}
+
+// The cursor's methods, on a fresh one.
+fn read_call(call: u32, src: &[u8]) -> u32 {
+    let fresh = Cursor::new(src);
+    let c = fresh.cursor;
+    match call {
+        0 => fresh.refusal,
+        1 => c.read_bits(Order::Big, src, 38).refusal,
+        2 => c.read_signed_bits(Order::Big, src, 38).refusal,
+        3 => c.read_u8(Order::Big, src).refusal,
+        4 => c.bytes_remaining(Order::Big, src).refusal,
+        5 => c.has_bits_remaining(Order::Big, src, 1).refusal,
+        6 => c.lookahead_bits(Order::Big, src).refusal,
+        7 => c.peek(Order::Big, src, 0).refusal,
+        8 => c.consume(Order::Big, src, 0).refusal,
+        9 => c.refill_lookahead(Order::Big, src).refusal,
+        10 => c.partial(Order::Big, src).refusal,
+        _ => {
+            let mut buf = [0u8; 4];
+            c.read_bytes(Order::Big, src, &mut buf).refusal
+        }
+    }
+}
+
+// Bytes to write, a layout, a plan, a line, a record's and a strip's source.
+fn other_call(call: u32, src: &[u8]) -> u32 {
+    let mut small = [0u8; 16];
+    let c = Cursor::from_parts(0, 0, 0);
+    let w = Writer {
+        written: 0,
+        held: 0,
+        number: 0,
+    };
+    match call {
+        12 => w.write_bytes(Order::Big, &mut small, src).refusal,
+        13 => layout::compile(src, &mut small).refusal,
+        14 => layout::check(src),
+        15 => line::read_line(src).refusal,
+        16 => strip::read_record(c, src).refusal,
+        17 => {
+            let mut numbers = [0u64; 6];
+            strip::read_strip(src, &mut numbers).refusal
+        }
+        18 => {
+            let mut results = [0u64; 6];
+            plan::run(c, Order::Big, &small, src, &mut results).refusal
+        }
+        _ => {
+            let mut results = [0u64; 6];
+            plan::run(c, Order::Big, src, b"", &mut results).refusal
+        }
+    }
+}
+
+// The writer's methods, on a fresh one.
+fn write_call(call: u32, out: &mut [u8]) -> u32 {
+    let w = Writer {
+        written: 0,
+        held: 0,
+        number: 0,
+    };
+    match call {
+        0 => Writer::new(out).refusal,
+        1 => w.write_bits(Order::Big, out, 3, 5).refusal,
+        2 => w.write_signed_bits(Order::Big, out, 3, 1).refusal,
+        3 => w.write_u8(Order::Big, out, 5).refusal,
+        4 => w.write_bytes(Order::Big, out, b"ab").refusal,
+        5 => w.unaligned_bits(out).refusal,
+        _ => w.flush(Order::Big, out).refusal,
+    }
+}
+
+// A buffer to read bytes into, a plan's, a line's, a record's and a strip's output.
+fn fill_call(call: u32, out: &mut [u8]) -> u32 {
+    let r = record::inner::no_record();
+    match call {
+        7 => {
+            let c = Cursor::from_parts(0, 0, 0);
+            c.read_bytes(Order::Big, b"ab", out).refusal
+        }
+        8 => layout::compile(b"", out).refusal,
+        9 => listing::write_line(r, out).refusal,
+        10 => {
+            let w = Writer {
+                written: 0,
+                held: 0,
+                number: 0,
+            };
+            strip::pack_record(w, out, r).refusal
+        }
+        _ => {
+            let numbers = [0u64; 6];
+            strip::pack_strip(&numbers, 1, out).refusal
+        }
+    }
+}

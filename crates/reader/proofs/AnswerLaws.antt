@@ -1,0 +1,107 @@
+-- Laws of answers: what a call that is not refused may rely on, and what a read gives either way.
+use Prim.Native.Nat.{ℕ, zero, suc, _-_, _*_, _%_, _^_, _<_, _≤_}
+use mathlib.Core.Path.{_≡_, refl, sym, ap, _∙_, subst}
+use mathlib.Core.Bool.{Bool, true, false}
+use mathlib.Core.List.{List}
+use native.Mathlib.Omega.{arith}
+use lib.ListN.{length, take, drop, length-drop}
+use lib.Seq.{take-all}
+use lib.Dec.{eqb}
+use lib.IntN.{ℤ, pos}
+use lib.Pow.{pow-pos}
+use borrow.Author.Tests.{eq-eqb, ne-eqb, eqb-true, eqb-false}
+use mir.Syntax.{Width, w64}
+use mir.Val.{SFits, bits, toZ, ofZ}
+use Rattle.bits.specs.declared.Order.{Order}
+use Rattle.bits.specs.Refusals.{done}
+use Rattle.bits.proofs.RefusalLaws.{passed, at-most}
+use Rattle.bits.proofs.FieldLaws.{field-lt}
+use Rattle.bits.specs.Signed.{signed}
+use Rattle.sign.proofs.SignedLaws.{signed-low, narrowed}
+use Rattle.floats.proofs.FloatLaws.{cond-either}
+use Rattle.reader.specs.declared.Cursor.{Cursor}
+use Rattle.reader.specs.declared.ReadU64.{ReadU64}
+use Rattle.reader.specs.Cursor.{bitsLeft, bytesLeft, aheadIn, Own}
+use Rattle.reader.proofs.CursorLaws.{refusal-own}
+use Rattle.reader.specs.Answers.{readRefusal, readOf, bytesRefusal, manualRefusal}
+
+-- ---- what a call that is not refused may rely on
+
+module _ (o : Order) (s : List ℕ) (c : Cursor) where
+  pub read-granted : (w : ℕ) → readRefusal o s c w ≡ done → Own o s c × (w ≤ 64) × (w ≤ bitsLeft s c)
+  unfolding readRefusal
+  read-granted w z =
+      let (own, (narrow, enough)) = passed _ z in
+      (refusal-own own, at-most _ _ _ narrow, at-most _ _ _ enough)
+
+  pub manual-granted : (n : ℕ) → manualRefusal o s c n ≡ done → Own o s c × (n ≤ aheadIn s c)
+  unfolding manualRefusal
+  manual-granted n z = let (own, enough) = passed _ z in (refusal-own own, at-most _ _ _ enough)
+
+  pub bytes-granted : (n : ℕ) → bytesRefusal o s c n ≡ done → Own o s c × (n ≤ bytesLeft s c)
+  unfolding bytesRefusal
+  bytes-granted n z = let (_, (own, enough)) = passed _ z in (refusal-own own, at-most _ _ _ enough)
+
+-- ---- reads, refused or not
+
+-- no bits set is 0 at any width
+pub signed-zero : (w : ℕ) → signed w 0 ≡ pos 0
+unfolding signed
+signed-zero zero = refl
+signed-zero (suc j) = signed-low j 0 (pow-pos j)
+
+module _ (o : Order) (s : List ℕ) (c : Cursor) (w : ℕ) where
+  pub read-refusal : (readOf o s c w) .refusal ≡ readRefusal o s c w
+  unfolding readOf
+  read-refusal =
+      cond-either (λ (r : ReadU64). r .refusal ≡ readRefusal o s c w) (eqb (readRefusal o s c w) done)
+      (λ t. sym (eqb-true _ _ t)) (λ t. refl)
+
+  -- a value is below 2 to its width
+  pub read-lt : (readOf o s c w) .value < 2 ^ w
+  unfolding readOf
+  read-lt =
+      cond-either (λ (r : ReadU64). r .value < 2 ^ w) (eqb (readRefusal o s c w) done)
+      (λ t. field-lt o s _ w) (λ t. pow-pos w)
+
+  -- a refused value is 0
+  pub refused-value : ((readOf o s c w) .refusal ≡ done → ⊥) → (readOf o s c w) .value ≡ 0
+  unfolding readOf
+  refused-value =
+      cond-either (λ (r : ReadU64). (r .refusal ≡ done → ⊥) → r .value ≡ 0) (eqb (readRefusal o s c w) done)
+      (λ t h. absurd (h refl)) (λ t h. refl)
+
+  -- the same of an answer in hand
+  module _ {r : ReadU64} (e : r ≡ readOf o s c w) where
+    pub answered-refusal : r .refusal ≡ readRefusal o s c w
+    answered-refusal = ap (λ (x : ReadU64). x .refusal) e ∙ read-refusal
+
+    pub answered-lt : r .value < 2 ^ w
+    answered-lt = subst (λ (x : ReadU64). x .value < 2 ^ w) (sym e) read-lt
+
+    pub refused-signed : (r .refusal ≡ done → ⊥) → pos 0 ≡ signed w ((readOf o s c w) .value)
+    refused-signed h =
+        sym (ap (signed w) (refused-value (λ z. h (ap (λ (x : ReadU64). x .refusal) e ∙ z))) ∙ signed-zero w)
+
+-- a read as the machine's signed number of its width: the cast of what sign extension gives is defined, and loses nothing
+pub signed-cast :
+    (o : Order) (s : List ℕ) (c : Cursor) (w : Width) {r : ReadU64} {z : ℤ} →
+    r ≡ readOf o s c (bits w) → SFits w64 z → z ≡ signed (bits w) (r .value) →
+    SFits w (toZ w64 (ofZ w64 z)) × (toZ w (ofZ w (toZ w64 (ofZ w64 z))) ≡ signed (bits w) ((readOf o s c (bits w)) .value))
+signed-cast o s c w {r} e f g =
+    let (defined, same) = narrowed w (r .value) (answered-lt o s c (bits w) e) f g in
+    (defined, same ∙ ap (λ (x : ReadU64). signed (bits w) (x .value)) e)
+
+-- ---- parts and places
+
+-- a part to the end of a slice
+pub to-end : (s : List ℕ) (at : ℕ) → take (length s - at) (drop at s) ≡ drop at s
+to-end s at = take-all (length s - at) (drop at s) (omega (arith, length-drop at s))
+
+-- the place is at the start of a byte if the lookahead is whole bytes
+pub aligned : (q r : ℕ) → r ≤ 8 * q → eqb (r % 8) 0 ≡ eqb ((8 * q - r) % 8) 0
+aligned q r h = by (eqb (r % 8) 0) refl
+  where
+    by : (t : Bool) → eqb (r % 8) 0 ≡ t → t ≡ eqb ((8 * q - r) % 8) 0
+    by true p = let z = eqb-true (r % 8) 0 p in sym (eq-eqb ((8 * q - r) % 8) 0 (omega arith))
+    by false p = sym (ne-eqb ((8 * q - r) % 8) 0 (λ z. eqb-false (r % 8) 0 p (omega arith)))

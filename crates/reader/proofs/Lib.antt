@@ -1,0 +1,4 @@
+pub mod CursorLaws
+pub mod AnswerLaws
+pub mod ReadLaws
+pub mod RemainderLaws

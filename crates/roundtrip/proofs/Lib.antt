@@ -1,0 +1,4 @@
+mod ItemLaws
+mod WayOut
+mod WayBack
+pub mod MixedTrip

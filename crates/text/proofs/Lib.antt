@@ -1,0 +1,7 @@
+mod HeaderLaws
+mod LinesLaws
+mod PackLaws
+mod ListLaws
+pub mod AnswerLaws
+mod GrammarLaws
+pub mod Theorems

@@ -1,0 +1,3 @@
+mod WidthLaws
+pub mod AnswerLaws
+pub mod WriteLaws
