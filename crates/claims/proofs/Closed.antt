@@ -37,7 +37,7 @@ use Rattle.layout.specs.Plan.{compile, decode}
 use Rattle.layout.specs.Check.{isPlan}
 use Rattle.layout.specs.Answers.{compileOf, compileOut, checkOf}
 use Rattle.layout.proofs.LayoutLaws.{layout-of}
-use Rattle.layout.proofs.Theorems.{compiled-passes, compiled-same, plan-layout, plan-length, bytes-items, items-bytes, bytes-layout}
+use Rattle.layout.proofs.Theorems.{compiled-passes, decode-compiled, compiled-same, plan-layout, plan-length, bytes-items, items-bytes, bytes-layout}
 use Rattle.plan.specs.Run.{runOf, runOut}
 use Rattle.plan.proofs.Theorems as P
 use Rattle.line.specs.declared.LineRead.{LineRead}
@@ -48,7 +48,7 @@ use Rattle.listing.proofs.Theorems.{round-trip, five-decimals, line-room}
 use Rattle.strip.specs.declared.StripRead.{StripRead}
 use Rattle.strip.specs.Strip.{allNumbers, countOf, recordsOf, tailGood}
 use Rattle.strip.specs.Answers as S
-use Rattle.strip.proofs.Theorems.{record-there, strip-there-and-back, fields-where, calls-there-and-back}
+use Rattle.strip.proofs.Theorems.{bits-record, record-bits, record-there, strip-there-and-back, fields-where, calls-there-and-back}
 use Rattle.roundtrip.specs.Mixed as Trip
 use Rattle.roundtrip.proofs.MixedTrip.{mixed-round-trip}
 use Rattle.text.specs.declared.Packed.{Packed}
@@ -236,6 +236,13 @@ plans-exactly p = (
       all-pass _ (rw (le-ltb longest (length p) short), rw plan),
 )
 
+pub plans-decode : C.PlansDecode
+unfolding checkOf
+plans-decode = (
+  λ fs e. decode-compiled fs (layout-of fs e .1),
+  λ p e. plan-layout p (test-held (isPlan p) _ (passed _ e .1)),
+)
+
 pub one-layout : C.OneLayout
 one-layout fs gs e f = (compiled-same fs gs (layout-of fs e .1) (layout-of gs f .1), plan-length (compile fs) (compiled-passes fs e))
 
@@ -258,6 +265,9 @@ pub lines-back : C.LinesBack
 lines-back r fit = let (size, few) = line-room r fit in (round-trip r fit, five-decimals r, omega (arith, size, few))
 
 -- ---- records and strips
+
+pub record-bits-are : C.RecordBits
+record-bits-are s p = (record-bits s p, bits-record s p)
 
 pub record-back : C.RecordBack
 record-back = record-there

@@ -33,12 +33,12 @@ use Rattle.layout.specs.Layout.{Item, item, itemsOf, areLayout, isLayout, bitsO
 use Rattle.layout.specs.Bytes.{bytesOf}
 use Rattle.layout.specs.Plan.{compile}
 use Rattle.layout.specs.Answers.{compileOf, compileOut, checkOf}
-use Rattle.plan.specs.Run.{patternOf, runOf, runOut}
+use Rattle.plan.specs.Run.{patternOf, fieldsOf, runOf, runOut}
 use Rattle.plan.specs.FieldReads.{readFields}
 use Rattle.line.specs.Grammar.{Line}
 use Rattle.line.specs.Reading.{lineRead, readLine}
 use Rattle.listing.specs.Listing.{partsOf, lineOf, writeLine, writeOut}
-use Rattle.strip.specs.Bits.{recordAt}
+use Rattle.strip.specs.Bits.{bitsOf as recordBitsOf, recordAt}
 use Rattle.strip.specs.Strip.{allFit, stripLength, countOf, recordsOf, tailGood}
 use Rattle.strip.specs.Answers as S
 use Rattle.text.specs.declared.Packed.{Packed}
@@ -241,6 +241,12 @@ PlanRuns =
 abbrev pub PlansExactly : Type 0
 PlansExactly = (p : List ℕ) → (checkOf p ≡ done) ↔ ((fs : List Item) × (areLayout fs ≡ true) × (compile fs ≡ p))
 
+-- a plan is decoded to the layout that it was compiled from
+abbrev pub PlansDecode : Type 0
+PlansDecode =
+    ((fs : List Item) → areLayout fs ≡ true → fieldsOf (compile fs) ≡ fs)
+    × ((p : List ℕ) → checkOf p ≡ done → (areLayout (fieldsOf p) ≡ true) × (compile (fieldsOf p) ≡ p))
+
 -- one layout only, and no plan is longer than 256 bytes
 abbrev pub OneLayout : Type 0
 OneLayout = (fs gs : List Item) → areLayout fs ≡ true → areLayout gs ≡ true → (compile fs ≡ compile gs → fs ≡ gs) × (length (compile fs) ≤ 256)
@@ -260,6 +266,13 @@ abbrev pub LinesBack : Type 0
 LinesBack = (r : Record) → Fits r → (readLine (lineOf r) ≡ lineRead done r) × (length (partsOf r .dayDecimals) ≡ 5) × (length (lineOf r) ≤ 41)
 
 -- ---- records and strips
+
+-- a record that fits and its 89 bits are one to one
+abbrev pub RecordBits : Type 0
+RecordBits =
+    (s : List ℕ) (p : ℕ) →
+    (recordBitsOf (recordAt s p) ≡ field Big s p recordBits)
+    × ((r : Record) → Fits r → field Big s p recordBits ≡ recordBitsOf r → recordAt s p ≡ r)
 
 -- a record that was packed behind anything is read where it was packed, after a flush
 abbrev pub RecordBack : Type 0

@@ -1,17 +1,21 @@
 -- Laws of a line's numbers at places of a text.
-use Prim.Native.Nat.{ℕ, _+_, _*_, _≤_}
+use Prim.Native.Nat.{ℕ, _+_, _*_, _%_, _^_, _<_, _≤_}
 use mathlib.Core.Path.{_≡_, refl, sym, ap, _∙_, subst}
-use mathlib.Core.Bool.{true, false}
+use mathlib.Core.Bool.{Bool, true, false, cond, _&&_}
 use mathlib.Core.List.{List}
 use lib.ListN.{length, drop}
 use lib.Seq.{drop-drop}
+use lib.Dec.{leb}
 use native.Mathlib.Omega.{arith}
+use borrow.Author.Tests.{leb-true}
+use Rattle.bits.proofs.TestLaws.{both, by-test}
+use Rattle.record.specs.Record.{depth}
 use Rattle.digits.specs.declared.inner.PartAt.{PartAt}
 use Rattle.digits.specs.Digits.{comma, point, minus, newline}
 use Rattle.digits.specs.Reading.{Part, most, starts, wholeAt, decimalsAt, Stands}
 use Rattle.digits.proofs.PartLaws.{whole-small, decimals-few}
 use Rattle.line.specs.Date.{unitsOf}
-use Rattle.line.specs.Reading.{dateAt, thousandthsAt, complement, magnitudeAt, sixAt}
+use Rattle.line.specs.Reading.{dateAt, thousandthsAt, complement, magnitudeAt, fromLeast, sixAt}
 
 -- a part that stands behind another one, as the text behind it has it
 stands-behind : {s : List ℕ} {q r : PartAt} {p : Part} (f : List ℕ → Part) → Stands s q p → Stands s r (f (drop (q .next) s)) → Stands s r (f (p .rest))
@@ -45,17 +49,37 @@ thousandths-small s =
     omega arith
 
 module _ (s : List ℕ) (at : ℕ) (m : PartAt) where
-  pub minus-stands : (v : ℕ) → starts minus (drop at s) ≡ true → Stands s m (thousandthsAt (drop (at + 1) s)) → v ≡ complement true (m .value)
-      → Stands s (record { value = v; count = 0; next = m .next }) (magnitudeAt (drop at s))
+  pub minus-stands : (v : ℕ) → starts minus (drop at s) ≡ true → Stands s m (thousandthsAt (drop (at + 1) s)) → v ≡ (complement true (m .value) + depth) % 2 ^ 64
+      → Stands s (record { value = v; count = 0; next = m .next }) (fromLeast (magnitudeAt (drop at s)))
   unfolding magnitudeAt
   minus-stands v e p f =
       let r = subst (λ (x : List ℕ). Stands s m (thousandthsAt x)) (sym (drop-drop 1 at s)) p in
-      rw e (stands-valued v _ r (f ∙ ap (complement true) (r .value)))
+      rw e (stands-valued v _ r (f ∙ ap (λ (n : ℕ). (complement true n + depth) % 2 ^ 64) (r .value)))
 
   pub plus-stands : starts minus (drop at s) ≡ false → Stands s m (thousandthsAt (drop at s))
-      → Stands s (record { value = m .value; count = 0; next = m .next }) (magnitudeAt (drop at s))
+      → Stands s (record { value = depth + m .value; count = 0; next = m .next }) (fromLeast (magnitudeAt (drop at s)))
   unfolding magnitudeAt complement
-  plus-stands e p = rw e (stands-valued _ _ p (p .value))
+  plus-stands e p =
+      let l : depth + m .value ≡ (thousandthsAt (drop at s) .value + depth) % 2 ^ 64 = omega (arith, thousandths-small (drop at s), p .value) in
+      rw e (stands-valued _ _ p l)
+
+-- a magnitude in two's complement has 64 bits
+complement-lt : (b : Bool) (n : ℕ) → n ≤ 1001 * most → complement b n < 2 ^ 64
+unfolding complement
+complement-lt false n h = omega arith
+complement-lt true n h =
+    by-test (leb 1 n && leb n depth) (λ p. let l = leb-true 1 n (both p .0) in rw p (omega arith)) (λ p. rw p (omega arith))
+
+-- so it is found again from its distance
+pub distance-stands : (s : List ℕ) (at : ℕ) (d : PartAt) (v : ℕ) → Stands s d (fromLeast (magnitudeAt (drop at s))) → v < 2 ^ 64 → (v + depth) % 2 ^ 64 ≡ d .value
+    → Stands s (record { value = v; count = 0; next = d .next }) (magnitudeAt (drop at s))
+unfolding magnitudeAt
+distance-stands s at d v p h e =
+    let t = drop at s in
+    let b = starts minus t in
+    let l = complement-lt b (thousandthsAt (cond b (drop 1 t) t) .value) (thousandths-small _) in
+    let same : v ≡ magnitudeAt t .value = omega (arith, e, p .value, l, h) in
+    record { value = same; count = refl; rest = p .rest; within = p .within }
 
 -- ---- the six numbers
 

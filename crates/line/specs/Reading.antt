@@ -1,5 +1,5 @@
 -- How a line is read: its six numbers from the front of a text, each with the byte that ends it.
-use Prim.Native.Nat.{ℕ, _-_, _^_, _<_, _≤_}
+use Prim.Native.Nat.{ℕ, _+_, _-_, _%_, _^_, _<_, _≤_}
 use mathlib.Core.Path.{_≡_}
 use mathlib.Core.Bool.{Bool, true, false, cond, not, _&&_}
 use mathlib.Core.List.{List, [], _∷_}
@@ -98,6 +98,10 @@ lineRefusal s = firstRefusal (ltb longest (length s) ⟶ tooLong ∷ not (begins
 -- what read_line answers
 unfoldable pub readLine : List ℕ → LineRead
 readLine s = lineRead (lineRefusal s) (ifDone (lineRefusal s) (firstOf s) noRecord)
+
+-- a magnitude as its distance from the least, as the code carries it until it is tested
+abbrev pub fromLeast : Part → Part
+fromLeast p = part ((p .value + depth) % 2 ^ 64) 0 (p .rest)
 
 -- line_at: whether a line begins at a place, its record, and the place of the text behind it, which lies further on
 pub record LineStands (s : List ℕ) (at : ℕ) (r : LineAt) : Type 0 where

@@ -3,12 +3,12 @@ use digits::inner::PartAt;
 use record::Record;
 ghost use mathlib.Core.Path.{_≡_};
 ghost use mathlib.Core.Bool.{true};
-ghost use Prim.Native.Nat.{_^_, _≤_};
+ghost use Prim.Native.Nat.{_+_, _%_, _^_, _≤_};
 ghost use lib.ListN.{length, drop};
 ghost use Rattle.digits.specs.Reading.{most, Stands};
-ghost use Rattle.record.specs.Record.{fits, recordOf};
+ghost use Rattle.record.specs.Record.{depth, fits, recordOf};
 ghost use Rattle.line.specs.Date.{unitsOf};
-ghost use Rattle.line.specs.Reading.{dateAt, thousandthsAt, complement, magnitudeAt, LineStands};
+ghost use Rattle.line.specs.Reading.{dateAt, thousandthsAt, complement, magnitudeAt, fromLeast, LineStands};
 
 // The units of 10^-5 day in a day.
 pub const DAY: u64 = 100_000;
@@ -78,23 +78,23 @@ fn thousandths_at(src: &[u8], at: usize) -> PartAt
     }
 }
 
-// Minus n thousandths in two's complement of 64 bits; minus zero, and what lies too far below zero, fits nowhere.
+// The distance of minus n thousandths from the least magnitude; minus zero, and what lies too far below zero, fits nowhere.
 fn below_zero(n: u64) -> u64
-    ensures { λ r. ⌜ r ≡ complement true n ⌝ }
+    ensures { λ r. ⌜ r ≡ (complement true n + depth) % 2 ^ 64 ⌝ }
 {
     if 1 <= n {
         if n <= DEPTH {
-            return 0xffff_ffff_ffff_ffff - (n - 1);
+            return DEPTH - n;
         }
-        return digits::inner::MOST;
+        return DEPTH + digits::inner::MOST;
     }
-    digits::inner::MOST
+    DEPTH + digits::inner::MOST
 }
 
-// The magnitude at a place, and its comma, in two's complement of 64 bits.
-fn magnitude_at(src: &[u8], at: usize) -> PartAt
+// The magnitude at a place, and its comma, as its distance from the least.
+fn distance_at(src: &[u8], at: usize) -> PartAt
     requires { ⌜ at ≤ length (now src) ⌝ }
-    ensures { λ r. ⌜ Stands (now (src .entry)) r (magnitudeAt (drop at (now (src .entry)))) ⌝ }
+    ensures { λ r. ⌜ Stands (now (src .entry)) r (fromLeast (magnitudeAt (drop at (now (src .entry))))) ⌝ }
 {
     if digits::inner::starts_at(src, at, b'-') {
         let number = thousandths_at(src, at + 1);
@@ -106,9 +106,22 @@ fn magnitude_at(src: &[u8], at: usize) -> PartAt
     }
     let number = thousandths_at(src, at);
     PartAt {
-        value: number.value,
+        value: DEPTH + number.value,
         count: 0,
         next: number.next,
+    }
+}
+
+// The magnitude at a place, and its comma, in two's complement of 64 bits.
+fn magnitude_at(src: &[u8], at: usize) -> PartAt
+    requires { ⌜ at ≤ length (now src) ⌝ }
+    ensures { λ r. ⌜ Stands (now (src .entry)) r (magnitudeAt (drop at (now (src .entry)))) ⌝ }
+{
+    let distance = distance_at(src, at);
+    PartAt {
+        value: std::num::wrapping_sub_u64(distance.value, DEPTH),
+        count: 0,
+        next: distance.next,
     }
 }
 

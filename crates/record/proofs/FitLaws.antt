@@ -26,8 +26,8 @@ module _ (r : Record) where
       let (star, e₁) = both e in
       let (date, e₂) = both e₁ in
       let (limit, e₃) = both e₂ in
-      let (magnitude, e₄) = both e₃ in
-      let (error, filter) = both e₄ in
+      let (error, e₄) = both e₃ in
+      let (filter, magnitude) = both e₄ in
       record {
         star = ltb-true _ _ star;
         date = ltb-true _ _ date;

@@ -39,7 +39,7 @@ fits r =
     ltb (r .star) (2 ^ starBits)
     && (ltb (r .date) (2 ^ dateBits)
     && (ltb (r .limit) (2 ^ limitBits)
-    && (ltb (mag (r .magnitude)) depth && (ltb (r .error) (2 ^ errorBits) && ltb (r .filter) (2 ^ filterBits)))))
+    && (ltb (r .error) (2 ^ errorBits) && (ltb (r .filter) (2 ^ filterBits) && ltb (mag (r .magnitude)) depth))))
 
 -- the same as a statement
 pub record Fits (r : Record) : Type 0 where

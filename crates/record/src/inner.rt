@@ -11,9 +11,9 @@ pub fn six_fit(star: u64, date: u64, limit: u64, magnitude: u64, error: u64, fil
     if star < 0x10_0000 {
         if date < 0x40_0000_0000 {
             if limit < 2 {
-                if std::num::wrapping_add_u64(magnitude, 0x8000) < 0x1_0000 {
-                    if error < 0x400 {
-                        return filter < 16;
+                if error < 0x400 {
+                    if filter < 16 {
+                        return std::num::wrapping_add_u64(magnitude, 0x8000) < 0x1_0000;
                     }
                     return false;
                 }

@@ -1,53 +1,21 @@
--- `magnitude_at` meets its contract: behind a minus the number is read one byte on and taken below zero (`minus-stands`); with none it
--- stays as it is (`plus-stands`). Assumes nothing.
-use mathlib.Core.Path.{sym, _∙_}
-use native.Mathlib.Omega.{arith}
+-- `magnitude_at` meets its contract: a magnitude of 64 bits is found again from its distance (`distance-stands`). Assumes nothing.
 use borrow.Author.Needs.{needs}
-use Rattle.digits.specs.Digits.{minus}
-use Rattle.digits.proofs.PlaceLaws.{starts-within}
-use Rattle.line.proofs.PlaceLaws.{minus-stands, plus-stands}
+use Rattle.line.proofs.PlaceLaws.{distance-stands}
 use Rattle.line.proofs.inner.magnitude_at.Statement.{statement}
 use Rattle.line.proofs.inner.magnitude_at.Tie as tie
 
-starts-at-requires : tie.Need-starts-at-requires
-starts-at-requires c κs = search needs
+distance-at-requires : tie.Need-distance-at-requires
+distance-at-requires c κs = search needs
 
-add-thousandths-at : tie.Need-add-thousandths-at
-add-thousandths-at c = search needs
-
-thousandths-at-requires : tie.Need-thousandths-at-requires
-thousandths-at-requires c κs =
-    let a = c .before .before .before .args in
-    let w = starts-within (a .src .now) (a .at) minus (sym (c .before .starts-at .ensures) ∙ c .if1 .taken) in
-    omega arith
-
-below-zero-requires : tie.Need-below-zero-requires
-below-zero-requires c κs = search needs
+wrapping-sub-u64-requires : tie.Need-wrapping-sub-u64-requires
+wrapping-sub-u64-requires c κs = search needs
 
 returns : tie.Need-returns
 returns c =
-    let a = c .before .before .before .before .before .args in
-    let m = c .before .thousandths-at in
-    minus-stands (a .src .now) (a .at) (m .result) (c .below-zero .result)
-    (sym (c .before .before .before .starts-at .ensures) ∙ c .before .before .if1 .taken) (m .ensures) (c .below-zero .ensures)
-
-thousandths-at-requires-2 : tie.Need-thousandths-at-requires-2
-thousandths-at-requires-2 c κs = search needs
-
-returns-2 : tie.Need-returns-2
-returns-2 c =
-    let a = c .before .before .before .before .args in
-    let m = c .thousandths-at2 in
-    plus-stands (a .src .now) (a .at) (m .result) (sym (c .before .before .starts-at .ensures) ∙ c .before .if1 .left) (m .ensures)
+    let a = c .before .before .before .args in
+    let d = c .before .distance-at in
+    let v = c .wrapping-sub-u64 in
+    distance-stands (a .src .now) (a .at) (d .result) (v .result) (d .ensures) (v .ok) (v .ensures)
 
 pub magnitude-at-spec : {M : Type 1} → statement M
-magnitude-at-spec =
-    tie.close
-    (tie.spec
-    starts-at-requires
-    add-thousandths-at
-    thousandths-at-requires
-    below-zero-requires
-    returns
-    thousandths-at-requires-2
-    returns-2)
+magnitude-at-spec = tie.close (tie.spec distance-at-requires wrapping-sub-u64-requires returns)
