@@ -1,5 +1,5 @@
 -- Laws of a line's numbers at places of a text.
-use Prim.Native.Nat.{ℕ, _+_, _*_, _%_, _^_, _<_, _≤_}
+use Prim.Native.Nat.{ℕ, _+_, _-_, _*_, _%_, _^_, _<_, _≤_}
 use mathlib.Core.Path.{_≡_, refl, sym, ap, _∙_, subst}
 use mathlib.Core.Bool.{Bool, true, false, cond, _&&_}
 use mathlib.Core.List.{List}
@@ -71,14 +71,14 @@ complement-lt true n h =
     by-test (leb 1 n && leb n depth) (λ p. let l = leb-true 1 n (both p .0) in rw p (omega arith)) (λ p. rw p (omega arith))
 
 -- so it is found again from its distance
-pub distance-stands : (s : List ℕ) (at : ℕ) (d : PartAt) (v : ℕ) → Stands s d (fromLeast (magnitudeAt (drop at s))) → v < 2 ^ 64 → (v + depth) % 2 ^ 64 ≡ d .value
+pub distance-stands : (s : List ℕ) (at : ℕ) (d : PartAt) (v : ℕ) → Stands s d (fromLeast (magnitudeAt (drop at s))) → v ≡ (d .value + (2 ^ 64 - depth)) % 2 ^ 64
     → Stands s (record { value = v; count = 0; next = d .next }) (magnitudeAt (drop at s))
 unfolding magnitudeAt
-distance-stands s at d v p h e =
+distance-stands s at d v p e =
     let t = drop at s in
     let b = starts minus t in
     let l = complement-lt b (thousandthsAt (cond b (drop 1 t) t) .value) (thousandths-small _) in
-    let same : v ≡ magnitudeAt t .value = omega (arith, e, p .value, l, h) in
+    let same : v ≡ magnitudeAt t .value = omega (arith, e, p .value, l) in
     record { value = same; count = refl; rest = p .rest; within = p .within }
 
 -- ---- the six numbers

@@ -119,7 +119,7 @@ fn magnitude_at(src: &[u8], at: usize) -> PartAt
 {
     let distance = distance_at(src, at);
     PartAt {
-        value: std::num::wrapping_sub_u64(distance.value, DEPTH),
+        value: std::num::wrapping_add_u64(distance.value, 0xffff_ffff_ffff_8000),
         count: 0,
         next: distance.next,
     }
