@@ -18,8 +18,6 @@ extern "C" {
     fn bench_read_38_little(s: *const u8, l: usize, n: usize) -> u64;
     fn bench_read_big(s: *const u8, l: usize, w: u32, n: usize) -> u64;
     fn bench_read_little(s: *const u8, l: usize, w: u32, n: usize) -> u64;
-    fn bench_inner_38_big(s: *const u8, l: usize) -> u64;
-    fn bench_inner_38_little(s: *const u8, l: usize) -> u64;
     fn bench_place_38_big(s: *const u8, l: usize) -> u64;
     fn bench_place_38_little(s: *const u8, l: usize) -> u64;
     fn bench_write_38_big(o: *mut u8, l: usize, v: *const u64, n: usize) -> u64;
@@ -678,12 +676,6 @@ fn cases(b: &Bench) -> Vec<Case> {
     add("read_bits w, little", 2.0, (fields as f64, "field"), &[], nothing,
         Box::new(move |b| unsafe { bench_read_little(b.src.as_ptr(), b.src.len(), black_box(38), fields) }),
         Some(Box::new(|b| rust_read_little(&b.src, black_box(38)))));
-    add("inner read_bits 38, big", 1.2, (fields as f64, "field"), &[], nothing,
-        Box::new(|b| unsafe { bench_inner_38_big(b.src.as_ptr(), b.src.len()) }),
-        Some(Box::new(|b| rust_read_38_big(&b.src))));
-    add("inner read_bits 38, little", 1.2, (fields as f64, "field"), &[], nothing,
-        Box::new(|b| unsafe { bench_inner_38_little(b.src.as_ptr(), b.src.len()) }),
-        Some(Box::new(|b| rust_read_38_little(&b.src))));
     add("field_at 38, big", 0.75, (fields as f64, "field"), &[], nothing,
         Box::new(|b| unsafe { bench_place_38_big(b.src.as_ptr(), b.src.len()) }),
         Some(Box::new(|b| rust_read_38_big(&b.src))));

@@ -127,6 +127,36 @@ printf 'x' >>"$work/in"
 echo 'too long' >"$work/want"
 same strippack '65,537 bytes'
 
+# the longest lines have 41 bytes: 1,597 of them pass, 1,598 do not
+longest='1048575,2748779.06943,1,-32.768,1.023,15'
+lines() { # COUNT
+    echo "$header"
+    awk -v n="$1" -v l="$longest" 'BEGIN { for (i = 0; i < n; i++) print l }'
+}
+lines 1598 >"$work/in"
+[ "$(wc -c <"$work/in" | tr -d ' ')" = 65549 ] || fail 'the longest line has another length'
+echo 'too long' >"$work/want"
+same strippack '1,598 of the longest lines'
+lines 1597 >"$work/text"
+tests/program strippack <"$work/text" >"$work/in" || fail 'strippack ended badly: 1,597 of the longest lines'
+[ "$(wc -c <"$work/in" | tr -d ' ')" = 17767 ] || fail 'strippack wrote no strip of 1,597 records'
+cp "$work/text" "$work/want" && same striplist '1,597 of the longest lines'
+# a long night in pieces, as docs/FORMAT.md says: 63 nights of 48 records are 3,024 records
+i=0
+while [ $i -lt 63 ]; do
+    cat examples/night.strip
+    i=$((i + 1))
+done >"$work/long"
+tests/program striplist <"$work/long" >"$work/in" || fail 'striplist ended badly: 3,024 records'
+echo 'too long' >"$work/want"
+same strippack 'the text of 3,024 records'
+(cd "$work" && split -b 17711 long piece.) || fail 'split'
+for piece in "$work"/piece.*; do
+    tests/program striplist <"$piece" >"$work/text" && tests/program strippack <"$work/text" || fail "a piece of a long night: $piece"
+done >"$work/out"
+cmp -s "$work/out" "$work/long" || fail 'a long night in pieces is not that night again'
+count=$((count + 1))
+
 # there and back
 ./strip pack <examples/night.txt >"$work/strip" || fail './strip pack examples/night.txt'
 cmp -s "$work/strip" examples/night.strip || fail './strip pack writes another strip than examples/night.strip'

@@ -30,16 +30,6 @@ pub extern "C" fn bench_read_little(src: &[u8], w: u32, n: usize) -> u64 {
 }
 
 #[no_mangle]
-pub extern "C" fn bench_inner_38_big(src: &[u8]) -> u64 {
-    reads::unchecked_big(src)
-}
-
-#[no_mangle]
-pub extern "C" fn bench_inner_38_little(src: &[u8]) -> u64 {
-    reads::unchecked_little(src)
-}
-
-#[no_mangle]
 pub extern "C" fn bench_place_38_big(src: &[u8]) -> u64 {
     reads::places_big(src)
 }

@@ -2,7 +2,6 @@
 // its own.
 use bits::Order;
 use bits::refusals;
-use lookahead::State;
 use reader::Cursor;
 
 // n fields of 38 bits by the public call, or as many as there are.
@@ -66,47 +65,6 @@ pub fn given_little(src: &[u8], w: u32, n: usize) -> u64 {
         }
         cursor = read.cursor;
         sum = sum ^ read.value;
-        left -= 1;
-    }
-    sum
-}
-
-// Every field of 38 bits by the inner read, which tests nothing.
-pub fn unchecked_big(src: &[u8]) -> u64 {
-    if refusals::LONGEST < src.len() {
-        return 0;
-    }
-    let mut state = State {
-        offset: 0,
-        lookahead: 0,
-        register: 0,
-    };
-    let mut sum: u64 = 0;
-    let mut left = 8 * src.len() / 38;
-    while 0 < left {
-        let taken = lookahead::inner::read_bits(Order::Big, src, state, 38);
-        state = taken.state;
-        sum = sum ^ taken.value;
-        left -= 1;
-    }
-    sum
-}
-
-pub fn unchecked_little(src: &[u8]) -> u64 {
-    if refusals::LONGEST < src.len() {
-        return 0;
-    }
-    let mut state = State {
-        offset: 0,
-        lookahead: 0,
-        register: 0,
-    };
-    let mut sum: u64 = 0;
-    let mut left = 8 * src.len() / 38;
-    while 0 < left {
-        let taken = lookahead::inner::read_bits(Order::Little, src, state, 38);
-        state = taken.state;
-        sum = sum ^ taken.value;
         left -= 1;
     }
     sum

@@ -11,7 +11,7 @@ use Rattle.bits.specs.declared.Order.{Order}
 use Rattle.bits.specs.declared.Order.the-variants.{Little, Big}
 use Rattle.bits.specs.Field.{position, bit, join, field}
 use Rattle.bits.specs.Word.{first, rest}
-use Rattle.bits.proofs.JoinLaws.{join-lt, join-assoc, join-none, none-join, first-join, rest-join}
+use Rattle.bits.proofs.JoinLaws.{join-lt, join-assoc, join-none, first-join, rest-join}
 
 pub bit-lt : (o : Order) (s : List ℕ) (k : ℕ) → bit o s k < 2 ^ 1
 unfolding bit
@@ -23,11 +23,6 @@ unfolding field
 field-lt o s p zero = pow-pos 0
 field-lt o s p (suc w) =
     subst (λ (n : ℕ). join o w 1 (field o s p w) (bit o s (p + w)) < 2 ^ n) (add-one w) (join-lt o w 1 (field-lt o s p w) (bit-lt o s (p + w)))
-
--- a field of one bit is the bit
-pub field-bit : (o : Order) (s : List ℕ) (k : ℕ) → field o s k 1 ≡ bit o s k
-unfolding field
-field-bit o s k = none-join o 1 (bit o s (k + 0)) ∙ ap (bit o s) (add-zero k)
 
 -- a field of a + b bits is its first a and the b after them
 pub field-split : (o : Order) (s : List ℕ) (p a b : ℕ) → field o s p (a + b) ≡ join o a b (field o s p a) (field o s (p + a) b)

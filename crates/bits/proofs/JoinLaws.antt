@@ -1,6 +1,6 @@
 -- Laws of joining bits and taking them apart again, over the order and the widths.
 use mathlib.Core.Path.{_≡_, sym, ap, _∙_, subst}
-use Prim.Native.Nat.{ℕ, _+_, _-_, _*_, _/_, _%_, _^_, _<_, _≤_}
+use Prim.Native.Nat.{ℕ, _+_, _-_, _*_, _^_, _<_}
 use native.Mathlib.Nat.{add-comm, add-assoc, mul-comm, mul-assoc, add-mul, add-zero, zero-add, mul-one, zero-mul, mod-lt, mod-eq-of-lt, div-one}
 use lib.Arith.{digits-lt}
 use lib.Pow.{pow-pos, pow-add, high, low, split, shr-lt}

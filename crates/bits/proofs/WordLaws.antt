@@ -1,6 +1,6 @@
 -- What the operations on words of 64 bits do to the fields that a word holds, over the order.
 use mathlib.Core.Path.{_≡_, sym, ap, ap₂, _∙_, subst}
-use Prim.Native.Nat.{ℕ, _+_, _-_, _*_, _/_, _%_, _^_, _<_, _≤_, suc-le-suc}
+use Prim.Native.Nat.{ℕ, _+_, _-_, _*_, _%_, _^_, _<_, _≤_, suc-le-suc}
 use native.Mathlib.Nat.{add-zero, zero-add, zero-mul, one-mul, mul-assoc, add-mul, mod-eq-of-lt, sub-add-cancel, le-refl, le-trans, lt-of-lt-of-le}
 use native.Mathlib.Omega.{arith}
 use mathlib.Core.List.{List}

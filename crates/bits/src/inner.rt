@@ -50,17 +50,6 @@ pub fn join_bits(order: Order, a: u32, b: u32, x: u64, y: u64) -> u64
     }
 }
 
-// The first a of a + b bits.
-pub fn first_part(order: Order, v: u64, a: u32, b: u32) -> u64
-    requires { ⌜ (a ≤ 63) × (b ≤ 63) ⌝ }
-    ensures { λ r. ⌜ r ≡ first order a b v ⌝ }
-{
-    match order {
-        Order::Little => v & ((1 << a) - 1),
-        Order::Big => v >> b,
-    }
-}
-
 // The last b of a + b bits.
 pub fn last_part(order: Order, v: u64, a: u32, b: u32) -> u64
     requires { ⌜ (a ≤ 63) × (b ≤ 63) ⌝ }

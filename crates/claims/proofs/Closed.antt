@@ -1,5 +1,5 @@
 -- Each statement of specs/Claims.antt, by the theorems of its crate.
-use Prim.Native.Nat.{ℕ, _+_, _*_, _%_, _≤_, _<_}
+use Prim.Native.Nat.{ℕ, _+_, _*_, _%_, _≤_}
 use mathlib.Core.Path.{_≡_, refl, sym, ap, _∙_, subst}
 use mathlib.Core.Bool.{true, false}
 use mathlib.Core.List.{List, [], _∷_, map}
@@ -17,10 +17,11 @@ use Rattle.sign.specs.Extend.{extendRefusal, extendOf}
 use Rattle.sign.proofs.SignedLaws.{pattern-signed}
 use Rattle.reader.specs.declared.Moved.{Moved}
 use Rattle.reader.specs.declared.ReadU64.{ReadU64}
-use Rattle.reader.specs.Cursor.{bitsLeft}
+use Rattle.reader.specs.declared.Cursor.{Cursor}
+use Rattle.reader.specs.Cursor.{bitsLeft, cursorRefusal}
 use Rattle.reader.specs.Answers as R
 use Rattle.reader.proofs.CursorLaws.{refusal-own, left-inside}
-use Rattle.reader.proofs.AnswerLaws.{read-refusal}
+use Rattle.reader.proofs.AnswerLaws.{read-refusal, bytes-none, none-out}
 use Rattle.reader.proofs.ReadLaws.{fresh-done, fresh-belongs, fresh-place, fresh-left, read-refused, read-enough, read-short, read-value, read-place, read-left, read-belongs, peek-value, consume-advanced, refill-advanced, bytes-advanced, bytes-field}
 use Rattle.reader.proofs.RemainderLaws.{remainder-where}
 use Rattle.packing.specs.Packing.{Belongs}
@@ -31,13 +32,15 @@ use Rattle.writer.specs.Answers as W
 use Rattle.writer.proofs.WriteLaws.{Stored, write-stored, signed-stored, bytes-stored, flush-stored}
 use Rattle.packing.proofs.BelongsLaws.{belongs-refusal}
 use Rattle.inplace.proofs.Theorems.{consume-refused, refill-refused}
-use Rattle.typed.proofs.Theorems.{bits-kept, kind-kept, read-number, read-cursor, read-meaning}
-use Rattle.layout.specs.Layout.{isLayout, bitsOf}
+use Rattle.floats.proofs.FloatLaws.{single-same, double-same, single-plain, double-plain}
+use Rattle.typed.proofs.Theorems.{bits-kept, kind-kept, read-done, read-refused as typed-refused, typed-back}
+use Rattle.typed.proofs.SameLaws.{same-exactly}
+use Rattle.layout.specs.Layout.{Item, itemsOf, areLayout, isLayout, bitsOf}
 use Rattle.layout.specs.Plan.{compile, decode}
 use Rattle.layout.specs.Check.{isPlan}
 use Rattle.layout.specs.Answers.{compileOf, compileOut, checkOf}
 use Rattle.layout.proofs.LayoutLaws.{layout-of}
-use Rattle.layout.proofs.Theorems.{compiled-passes, decode-compiled, compiled-same, plan-layout, plan-length, bytes-items, items-bytes, bytes-layout}
+use Rattle.layout.proofs.Theorems.{compiled-passes, check-exactly, compiled-left, decode-compiled, compiled-same, plan-layout, plan-length, bytes-items, items-bytes, bytes-layout}
 use Rattle.plan.specs.Run.{runOf, runOut}
 use Rattle.plan.proofs.Theorems as P
 use Rattle.line.specs.declared.LineRead.{LineRead}
@@ -48,14 +51,19 @@ use Rattle.listing.proofs.Theorems.{round-trip, five-decimals, line-room}
 use Rattle.strip.specs.declared.StripRead.{StripRead}
 use Rattle.strip.specs.Strip.{allNumbers, countOf, recordsOf, tailGood}
 use Rattle.strip.specs.Answers as S
-use Rattle.strip.proofs.Theorems.{bits-record, record-bits, record-there, strip-there-and-back, fields-where, calls-there-and-back}
+use Rattle.strip.proofs.Theorems.{bits-record, record-bits, record-there, strip-there-and-back, fields-where, packed-out, each-packed, each-read, calls-there-and-back}
+use Rattle.strip.proofs.StripLaws.{length-strip, strip-same}
 use Rattle.roundtrip.specs.Mixed as Trip
 use Rattle.roundtrip.proofs.MixedTrip.{mixed-round-trip}
 use Rattle.text.specs.declared.Packed.{Packed}
 use Rattle.text.specs.Text.{bodyOf}
 use Rattle.text.specs.Answers as X
 use Rattle.text.proofs.AnswerLaws.{pack-tests}
-use Rattle.text.proofs.Theorems.{good-text, text-packs, packed-back}
+use Rattle.text.proofs.BadLineLaws.{bad-line-exactly, bad-or-good}
+use Rattle.text.proofs.Theorems.{good-text, text-packs, text-again, packed-back}
+use Rattle.jobs.specs.Answers.{answeredOf, answeredOut}
+use Rattle.jobs.proofs.ApartLaws.{too-long-apart, bad-line-apart}
+use Rattle.jobs.proofs.Theorems.{list-is, pack-is, list-room, pack-room, few-back, many-lost}
 use Rattle.host.specs.Host.{hostValue}
 use Rattle.host.proofs.HostLaws.{not-refused, done-within}
 use Rattle.claims.specs.Claims as C
@@ -95,7 +103,7 @@ unfolding runOf runOut
 refused-runs o s c p out h = (kept _ _ _ h, kept _ _ _ h)
 
 pub refused-outputs : C.RefusedOutputs
-unfolding compileOf compileOut S.packOf S.packOut S.stripOf S.packedOut S.listOf S.listOut writeLine writeOut X.listOf X.listOut X.packOf X.packOut
+unfolding compileOf compileOut S.packOf S.packOut S.stripOf S.packedOut S.listOf S.listOut writeLine writeOut X.listOf X.listOut X.packOf X.packOut answeredOf answeredOut
 refused-outputs s out = (
   λ h. kept _ _ _ h,
   λ w r h. (kept _ _ _ h, kept _ _ _ h),
@@ -106,6 +114,7 @@ refused-outputs s out = (
       let all : StripRead = record { refusal = done; count = countOf s; «tail_good» = tailGood s } in
       kept e (sets out 0 (allNumbers (recordsOf s))) out (λ z. h (number-of (λ (r : StripRead). r .refusal) e all none refl refl ∙ z)),
   λ r h. kept _ _ _ h,
+  λ h. kept _ _ _ h,
   λ h. kept _ _ _ h,
   λ h. kept _ _ _ h,
 )
@@ -136,6 +145,9 @@ pub bytes-read : C.BytesRead
 unfolding R.bytesOf
 bytes-read o s c out e = (bytes-field o s c out e, bytes-advanced o s c (length out) e .ahead)
 
+pub no-bytes-read : C.NoBytesRead
+no-bytes-read o s c = (bytes-none o s c, none-out o s c)
+
 pub manual-reads : C.ManualReads
 unfolding R.peekOf R.refillOf
 manual-reads o s c = (λ n e. (peek-value o s c n e, consume-advanced o s c n e .ahead), λ e. refill-advanced o s c e .ahead ∙ add-zero _)
@@ -162,8 +174,7 @@ stand o s w {n} {v} {t} {r} x =
     record {
       written = x .written;
       behind = x .stands;
-      full = x .full;
-      untouched = x .untouched;
+      memory = x .memory;
       belongs = belongs-refusal (length t) (stateIn (r .writer)) (subst (λ (k : ℕ). Belongs k (stateIn (r .writer))) (sym (x .same-length)) (x .belongs));
     }
 
@@ -199,17 +210,23 @@ fields-read-back o s es short fit room =
 pub bits-are-kept : C.BitsKept
 bits-are-kept k b h = (bits-kept k b h, kind-kept k b)
 
+pub floats-same : C.FloatsSame
+floats-same = (single-same, double-same, λ b n. (single-plain b n, double-plain b n))
+
 pub typed-reads : C.TypedReads
-typed-reads o s c k w = (
-  read-number o s c k w ∙ sym (read-refusal o s c _),
-  read-cursor o s c k w,
-  λ e. read-meaning o s c k w (sym (read-refusal o s c _) ∙ e),
-)
+typed-reads o s c k w = (read-done o s c k w, typed-refused o s c k w)
+
+pub typed-same : C.TypedSame
+typed-same = same-exactly
+
+pub typed-read-back : C.TypedBack
+typed-read-back = typed-back
 
 -- ---- plans
 
-pub plan-runs : C.PlanRuns
-plan-runs o s c fs out layout own room = (
+runs : (o : Order) (s : List ℕ) (c : Cursor) (fs : List Item) (out : List ℕ) → areLayout fs ≡ true → cursorRefusal o s c ≡ done
+    → length fs ≤ length out → C.Runs o s c (compile fs) fs out
+runs o s c fs out layout own room = (
   (
     λ e. by-test (ltb (bitsLeft s c) (bitsOf fs)) (λ t. ltb-true _ _ t) (λ t. absurd (omega (arith, e, P.compile-run o s c fs out layout own room (ltb-false _ _ t) .0))),
     λ few. ap (λ (m : Moved). m .refusal) (P.compile-run-short o s c fs out layout own room few .0),
@@ -225,6 +242,17 @@ plan-runs o s c fs out layout own room = (
   P.run-reads-refusal o s c fs out layout own room,
   P.run-reads o s c fs out layout own room,
 )
+
+pub plans-left : C.PlansLeft
+plans-left = compiled-left
+
+pub plan-runs : C.PlanRuns
+plan-runs o s c l m out z own room =
+    let (left, layout) = compiled-left l m z in
+    subst (λ (p : List ℕ). C.Runs o s c p (itemsOf l) out) (sym left) (runs o s c (itemsOf l) out layout own room)
+
+pub plans-refused : C.PlansRefused
+plans-refused = check-exactly
 
 pub plans-exactly : C.PlansExactly
 unfolding checkOf
@@ -273,8 +301,19 @@ pub record-back : C.RecordBack
 record-back = record-there
 
 pub strip-back : C.StripBack
-strip-back rs s fit short room =
-    let (records, tail) = strip-there-and-back rs s fit short room in (records, tail, fields-where rs s fit short room)
+strip-back rs fit = let (records, tail) = strip-there-and-back rs fit in (length-strip rs, records, tail, fields-where rs fit)
+
+pub strip-is-same : C.StripSame
+strip-is-same = strip-same
+
+pub strip-packed : C.StripPacked
+unfolding S.stripOf
+strip-packed ns n s z =
+    let (packs, flushes, size, memory) = each-packed ns n s z in
+    (packed-out ns n s z, packs, flushes, size, memory)
+
+pub each-is-read : C.EachRead
+each-is-read = each-read
 
 pub numbers-back : C.NumbersBack
 numbers-back = calls-there-and-back
@@ -291,5 +330,28 @@ texts-exactly t out short short-out = (
   λ g. ap (λ (a : Packed). a .refusal) (texts-pack t out (g .0) short short-out (g .1) (g .2) .0),
 )
 
+pub bad-line-is : C.BadLineExactly
+bad-line-is = bad-line-exactly
+
+pub bad-line-there : C.BadLineThere
+bad-line-there = bad-or-good
+
+pub texts-again : C.TextsAgain
+texts-again t out rs g decimals short short-out room = text-again out g decimals short short-out room
+
 pub texts-back : C.TextsBack
 texts-back = packed-back
+
+-- ---- programs
+
+pub answers-are : C.AnswersAre
+answers-are = (list-is, pack-is)
+
+pub messages-apart : C.MessagesApart
+messages-apart rs fit = (too-long-apart rs, λ n small. bad-line-apart rs n fit small)
+
+pub answers-fit : C.AnswersFit
+answers-fit = (λ s. omega (arith, list-room s), λ t. omega (arith, pack-room t))
+
+pub answers-back : C.AnswersBack
+answers-back = (few-back, many-lost)

@@ -9,7 +9,7 @@ use Rattle.bits.specs.declared.Order.the-variants.{Little, Big}
 use Rattle.bits.specs.Refusals.{orElse, firstRefusal}
 use Rattle.bits.specs.Field.{position, bit, join, field}
 use Rattle.bits.specs.Word.{first, rest, held}
-use Rattle.bits.specs.Signed.{signed}
+use Rattle.bits.specs.Signed.{signed, pattern}
 use Rattle.sign.specs.declared.Extended.{Extended}
 use Rattle.sign.specs.Extend.{extendRefusal, extendOf}
 use Rattle.counts.specs.Counts.{afterRead}
@@ -18,22 +18,27 @@ use Rattle.reader.specs.declared.Cursor.{Cursor}
 use Rattle.reader.specs.declared.ReadU64.{ReadU64}
 use Rattle.reader.specs.declared.Partial.{Partial}
 use Rattle.reader.specs.Cursor.{cursorRefusal, bitsLeft, cursorAt}
-use Rattle.reader.specs.Answers.{newOf, readRefusal, readOf, remainderOf, partialOf}
+use Rattle.reader.specs.Answers.{newOf, readRefusal, readOf, startOf, remainderOf, partialOf}
 use Rattle.packing.specs.Packing as P
 use Rattle.packing.specs.Packing.{bytesOf, put, putOut}
 use Rattle.layout.specs.declared.Compiled.{Compiled}
 use Rattle.layout.specs.Layout.{itemsOf, goodItems, isLayout}
 use Rattle.layout.specs.Plan.{takes, refilled}
 use Rattle.layout.specs.Answers.{compileRefusal, compileOf, compileOut}
-use Rattle.digits.specs.Digits.{ascii, newline}
+use Rattle.digits.specs.Digits.{ascii, newline, valueFrom}
+use Rattle.digits.specs.Reading.{run, after, closed, wholeAt, decimalsAt}
 use Rattle.print.specs.Print.{digitsOf, placesIn, fixedOf}
+use Rattle.record.specs.Record.{fits}
+use Rattle.line.specs.Date.{unitsOf}
+use Rattle.line.specs.Reading.{dateAt, thousandthsAt, complement, magnitudeAt, sixAt}
 use Rattle.line.specs.Grammar.{spelled}
 use Rattle.listing.specs.Listing.{partsOf, lineOf}
-use Rattle.strip.specs.Bits.{recordAt}
-use Rattle.strip.specs.Strip.{recordsFrom, tailGood}
+use Rattle.strip.specs.Bits.{bitsOf, recordAt}
+use Rattle.strip.specs.Strip.{joined, stripBytes, recordsFrom, tailGood}
 use Rattle.text.specs.declared.Listed.{Listed}
-use Rattle.text.specs.Text.{header, badTail, listed, textOf}
+use Rattle.text.specs.Text.{header, badTail, listed, textOf, headed, linesIn}
 use Rattle.text.specs.Answers.{listRefusal, listOf}
+use Rattle.jobs.specs.Jobs.{tooLongSaid, badLineSaid, listAnswer, packAnswer}
 use Rattle.writer.specs.declared.Writer.{Writer}
 use Rattle.writer.specs.Writer.{oversized, writeRefusal}
 use Rattle.writer.specs.Answers as W
@@ -62,6 +67,11 @@ pub data Asked : Type 0 where
   compiles : List ℕ → List ℕ → Asked
   -- the text of a strip, listed into an output with room for so many bytes: the refusal number, the length, and the text
   lists : List ℕ → ℕ → Asked
+  -- all that striplist, and strippack, write for all that they read
+  listed-by-program : List ℕ → Asked
+  packed-by-program : List ℕ → Asked
+  -- the message for too much
+  said : Asked
 
 -- reads of these widths from a cursor on
 unfoldable pub readings : Order → List ℕ → Cursor → List ℕ → List ℤ
@@ -86,6 +96,9 @@ told (remains o s n) =
     (pos (p .«partial_bits») ∷ pos (p .«partial_byte») ∷ map pos (remainderOf o s c))
 told (compiles s out) =
     let r : Compiled = compileOf s (length out) in (pos (r .refusal) ∷ pos (r .length) ∷ map pos (compileOut s out))
+told (listed-by-program s) = map pos (listAnswer s)
+told (packed-by-program t) = map pos (packAnswer t)
+told said = map pos tooLongSaid
 told (lists s room) = let r : Listed = listOf s room in (pos (r .refusal) ∷ pos (r .length) ∷ map pos (textOf s))
 
 -- an example and its expected answer
@@ -134,9 +147,17 @@ table =
     -- P11
     ∷ (lists (0x00 ∷ 0x00 ∷ 0x5e ∷ 0x52 ∷ 0x77 ∷ 0x48 ∷ 0x84 ∷ 0x5f ∷ 0x4c ∷ 0x00 ∷ 0x61 ∷ 0x80 ∷ []) 64
     gives (pos 0 ∷ pos 64 ∷ map pos (ascii "star,date,limit,mag,err,filter" ++ newline ∷ (ascii "5,2460523.64817,0,-1.440,0.012,3" ++ newline ∷ []))))
+    -- what the programs write
+    ∷ (listed-by-program (0 ∷ []) gives map pos (ascii "star,date,limit,mag,err,filter" ++ newline ∷ (ascii "bad tail" ++ newline ∷ [])))
+    ∷ (packed-by-program [] gives map pos (ascii "bad line 1" ++ newline ∷ []))
+    ∷ (packed-by-program (ascii "star,date,limit,mag,err,filter" ++ newline ∷ (ascii "5,2460523.64817,0,-1.440,0.012,3" ++ newline ∷ []))
+    gives map pos (0x00 ∷ 0x00 ∷ 0x5e ∷ 0x52 ∷ 0x77 ∷ 0x48 ∷ 0x84 ∷ 0x5f ∷ 0x4c ∷ 0x00 ∷ 0x61 ∷ 0x80 ∷ []))
+    ∷ (packed-by-program (ascii "star,date,limit,mag,err,filter" ++ newline ∷ (ascii "5,2460523.64817,0,-1.440,0.012,3" ++ newline ∷ (ascii "5,2460523.64817" ++ newline ∷ [])))
+    gives map pos (ascii "bad line 3" ++ newline ∷ []))
+    ∷ (said gives map pos (ascii "too long" ++ newline ∷ []))
     ∷ []
 
 -- every example of the table is answered as expected
 pub table-holds : map (λ (e : Example). told (e .asked)) table ≡ map (λ (e : Example). e .expected) table
-unfolding told readings writings ascii digitsOf placesIn fixedOf spelled partsOf lineOf recordAt recordsFrom tailGood header badTail listed listRefusal listOf itemsOf goodItems isLayout takes refilled compileRefusal compileOf compileOut oversized writeRefusal writeOf writeOut flushOf flushOut W.newOf P.belongs P.stateRefusal bytesOf put putOut first rest extendRefusal extendOf signed newOf readRefusal readOf remainderOf partialOf cursorRefusal bitsLeft cursorAt orElse firstRefusal stateRefusal belongs registerOf afterRead position bit join field held
+unfolding told listAnswer packAnswer tooLongSaid badLineSaid headed linesIn stripBytes joined bitsOf fits sixAt dateAt thousandthsAt complement magnitudeAt closed wholeAt decimalsAt run after valueFrom unitsOf pattern readings writings ascii digitsOf placesIn fixedOf spelled partsOf lineOf recordAt recordsFrom tailGood header badTail listed listRefusal listOf itemsOf goodItems isLayout takes refilled compileRefusal compileOf compileOut oversized writeRefusal writeOf writeOut flushOf flushOut W.newOf P.belongs P.stateRefusal bytesOf put putOut first rest extendRefusal extendOf signed newOf readRefusal readOf startOf remainderOf partialOf cursorRefusal bitsLeft cursorAt orElse firstRefusal stateRefusal belongs registerOf afterRead position bit join field held
 table-holds = refl

@@ -8,12 +8,13 @@ use mathlib.Core.List.{List, [], _∷_, map}
 use lib.IntN.{ℤ}
 use lib.ListN.{length, take, drop, getD}
 use lib.Seq.{sets}
+use lib.Ieee.{binary32, binary64, nanBits}
 use Rattle.bits.specs.declared.Order.{Order}
 use Rattle.bits.specs.declared.Order.the-variants.{Big}
-use Rattle.bits.specs.Refusals.{longest, done, tooFew}
+use Rattle.bits.specs.Refusals.{longest, done, badPlan, badLine, tooFew}
 use Rattle.bits.specs.Field.{field, join}
 use Rattle.bits.specs.Signed.{signed, pattern}
-use Rattle.packing.specs.Packing.{story}
+use Rattle.packing.specs.Packing.{filled, story}
 use Rattle.record.specs.declared.Record.{Record}
 use Rattle.record.specs.Record.{Fits, recordBits, noRecord}
 use Rattle.sign.specs.Extend.{extendOf}
@@ -24,9 +25,15 @@ use Rattle.reader.specs.Answers.{moved}
 use Rattle.writer.specs.declared.Writer.{Writer}
 use Rattle.writer.specs.Writer.{stateIn, bitsWritten, writerRefusal, padding}
 use Rattle.writer.specs.Answers as W
+use Rattle.floats.specs.declared.Single.{Single}
+use Rattle.floats.specs.declared.Single.the-variants.{Bits as Single·Bits}
+use Rattle.floats.specs.declared.Double.{Double}
+use Rattle.floats.specs.declared.Double.the-variants.{Bits as Double·Bits}
+use Rattle.floats.specs.Floats.{singleOf, singleBits, sameSingle, SingleHeld, doubleOf, doubleBits, sameDouble, DoubleHeld}
 use Rattle.typed.specs.declared.Kind.{Kind}
-use Rattle.typed.specs.declared.TypedRead.the-variants.{Done}
-use Rattle.typed.specs.Typed.{typedOf, bitsOf as typedBits, kindOf, widthOf, meaning}
+use Rattle.typed.specs.declared.Typed.{Typed}
+use Rattle.typed.specs.declared.TypedRead.the-variants.{Done, Refused}
+use Rattle.typed.specs.Typed.{typedOf, bitsOf as typedBits, kindOf, sameTyped, widthOf, meaning, Fits as TypedFits}
 use Rattle.typed.specs.Answers as T
 use Rattle.roundtrip.specs.Mixed as Trip
 use Rattle.layout.specs.Layout.{Item, item, itemsOf, areLayout, isLayout, bitsOf}
@@ -39,12 +46,15 @@ use Rattle.line.specs.Grammar.{Line}
 use Rattle.line.specs.Reading.{lineRead, readLine}
 use Rattle.listing.specs.Listing.{partsOf, lineOf, writeLine, writeOut}
 use Rattle.strip.specs.Bits.{bitsOf as recordBitsOf, recordAt}
-use Rattle.strip.specs.Strip.{allFit, stripLength, countOf, recordsOf, tailGood}
+use Rattle.strip.specs.Strip.{recordsIn, allFit, stripLength, stripBytes, countOf, recordsOf, tailGood}
 use Rattle.strip.specs.Answers as S
+use Rattle.strip.specs.Calls.{packEach, readTimes}
 use Rattle.text.specs.declared.Packed.{Packed}
 use Rattle.text.specs.Text.{textOf}
-use Rattle.text.specs.Grammar.{GoodText}
+use Rattle.text.specs.Grammar.{AllFive, FirstBad, GoodText}
 use Rattle.text.specs.Answers as X
+use Rattle.jobs.specs.Jobs.{tooLongSaid, badLineSaid, listAnswer, packAnswer}
+use Rattle.jobs.specs.Answers.{answeredOf, answeredOut}
 use Rattle.host.specs.Host.{orderOf, hostRefusal, hostValue}
 
 -- ---- demand 1: a refusal hands back cursor, writer and lent memory as they came
@@ -67,7 +77,7 @@ RefusedWrites =
     × ((bs : List ℕ) → (W.bytesOf o (length s) w bs .refusal ≡ done → ⊥) → (W.bytesOf o (length s) w bs .writer ≡ w) × (W.bytesOut o s w bs ≡ s))
     × ((W.flushOf o (length s) w .refusal ≡ done → ⊥) → (W.flushOf o (length s) w .writer ≡ w) × (W.flushOut o s w ≡ s))
 
--- by a plan, a compiler, a list, a record, a line or a text
+-- by a plan, a compiler, a list, a record, a line, a text or a job's answer s
 abbrev pub RefusedRuns : Type 0
 RefusedRuns =
     (o : Order) (s : List ℕ) (c : Cursor) (p out : List ℕ) → (runOf o s c p (length out) .refusal ≡ done → ⊥)
@@ -83,6 +93,7 @@ RefusedOutputs =
     × ((r : Record) → (writeLine r (length out) .refusal ≡ done → ⊥) → writeOut r out ≡ out)
     × ((X.listOf s (length out) .refusal ≡ done → ⊥) → X.listOut s out ≡ out)
     × ((X.packOf s (length out) .refusal ≡ done → ⊥) → X.packOut s out ≡ out)
+    × ((answeredOf s (length out) .refusal ≡ done → ⊥) → answeredOut s out ≡ out)
 
 -- on a borrowed cursor: r is answered and d left where it stands
 abbrev pub RefusedInPlace : Type 0
@@ -119,6 +130,10 @@ BytesRead =
     ((i : ℕ) → i < length out → getD (R.bytesOut o s c out) i 0 ≡ field o s (place c + 8 * i) 8)
     × (place (R.bytesOf o s c (length out) .cursor) ≡ place c + 8 * length out)
 
+-- none of them change nothing
+abbrev pub NoBytesRead : Type 0
+NoBytesRead = (o : Order) (s : List ℕ) (c : Cursor) → (R.bytesOf o s c 0 .cursor ≡ c) × (R.bytesOut o s c [] ≡ [])
+
 -- manual mode: a peek sees the field at the place, a consume passes it, a refill moves no place
 abbrev pub ManualReads : Type 0
 ManualReads =
@@ -131,7 +146,7 @@ abbrev pub RemainderWhere : Type 0
 RemainderWhere =
     (o : Order) (s : List ℕ) (c : Cursor) → cursorRefusal o s c ≡ done →
     let at = (place c + 7) / 8 in
-    (R.remainderOf o s c ≡ drop at s) × (R.partialOf o s c ≡ record { refusal = done; «partial_bits» = 8 * at - place c; «partial_byte» = field o s (place c) (8 * at - place c) })
+    (R.startOf o s c ≡ at) × (R.remainderOf o s c ≡ drop at s) × (R.partialOf o s c ≡ record { refusal = done; «partial_bits» = 8 * at - place c; «partial_byte» = field o s (place c) (8 * at - place c) })
 
 -- sign extension gives the signed meaning at every width from 0 to 64, and the bits come back from it
 abbrev pub SignExtends : Type 0
@@ -148,12 +163,11 @@ HostExactly =
 -- ---- demand 2: writes are by the bit definitions
 
 -- from output s and writer w, n bits v were written, leaving output t and writer x: they stand behind all that was written, as one
--- number, nothing of which changed; bytes that were full, and those from T div 8 on, are untouched
+-- number, nothing of which changed; in the output the bytes that they made full are set behind those that were full, and no other
 pub record Stands (o : Order) (s : List ℕ) (w : Writer) (n v : ℕ) (t : List ℕ) (x : Writer) : Type 0 where
   pub written : bitsWritten x ≡ bitsWritten w + n
   pub behind : story o t (stateIn x) ≡ join o (bitsWritten w) n (story o s (stateIn w)) v
-  pub full : (i : ℕ) → i < w .written → getD t i 0 ≡ getD s i 0
-  pub untouched : (i : ℕ) → bitsWritten x / 8 ≤ i → getD t i 0 ≡ getD s i 0
+  pub memory : t ≡ sets s (w .written) (filled o (stateIn w) n v)
   pub belongs : writerRefusal (length t) x ≡ done
 
 -- each write that is not refused
@@ -205,22 +219,44 @@ FieldsReadBack =
 abbrev pub BitsKept : Type 0
 BitsKept = (k : Kind) (b : ℕ) → b < 2 ^ widthOf k 64 → (typedBits (typedOf k b) ≡ b) × (kindOf (typedOf k b) ≡ k)
 
--- a typed read refuses and moves as the read of the kind's width, and its value is the field's by the kind's meaning
+-- a float means its bits: made of a float's bits it is the same float, and it is kept as bits only where they are a NaN's
+abbrev pub FloatsSame : Type 0
+FloatsSame =
+    ((x : Single) → SingleHeld x → sameSingle (singleOf (singleBits x)) x ≡ true)
+    × ((x : Double) → DoubleHeld x → sameDouble (doubleOf (doubleBits x)) x ≡ true)
+    × ((b n : ℕ) → (singleOf b ≡ Single·Bits n → nanBits binary32 n ≡ true) × (doubleOf b ≡ Double·Bits n → nanBits binary64 n ≡ true))
+
+-- a typed read is done where the read of the kind's width is, with the field's value by the kind's meaning; else it is refused by the
+-- same number, with the cursor that came
 abbrev pub TypedReads : Type 0
 TypedReads =
     (o : Order) (s : List ℕ) (c : Cursor) (k : Kind) (w : ℕ) →
     let r = R.readOf o s c (widthOf k w) in
-    (T.refusalIn (T.readOf o s c k w) ≡ r .refusal) × (T.cursorIn (T.readOf o s c k w) ≡ r .cursor)
-    × (r .refusal ≡ done → T.readOf o s c k w ≡ Done (meaning k w (field o s (place c) (widthOf k w))) (r .cursor))
+    (r .refusal ≡ done → T.readOf o s c k w ≡ Done (meaning k w (field o s (place c) (widthOf k w))) (r .cursor))
+    × ((r .refusal ≡ done → ⊥) → T.readOf o s c k w ≡ Refused (r .refusal) c)
+
+-- typed values are the same exactly if they are of one kind and have the same bits
+abbrev pub TypedSame : Type 0
+TypedSame = (a b : Typed) → (sameTyped a b ≡ true) ↔ ((kindOf a ≡ kindOf b) × (typedBits a ≡ typedBits b))
+
+-- a value that was written behind anything, and flushed, is read at the place where it was written: the value that its low bits make,
+-- and the same where it fits its width
+abbrev pub TypedBack : Type 0
+TypedBack =
+    (o : Order) (s : List ℕ) (w : Writer) (v : Typed) (n : ℕ) → T.writeOf o (length s) w v n .refusal ≡ done →
+    let t = W.flushOut o (T.writeOut o s w v n) (T.writeOf o (length s) w v n .writer) in
+    let k = widthOf (kindOf v) n in
+    let back = meaning (kindOf v) n (typedBits v % 2 ^ k) in
+    (c : Cursor) → cursorRefusal o t c ≡ done → place c ≡ bitsWritten w → k ≤ bitsLeft t c →
+    (T.readOf o t c (kindOf v) n ≡ Done back (R.readOf o t c k .cursor)) × (TypedFits n v → sameTyped back v ≡ true)
 
 -- ---- demand 3: a compiled layout is run to its fields' values
 
--- of fields fs that are a layout, a cursor c that belongs to the slice s, and results out with room
-abbrev pub PlanRuns : Type 0
-PlanRuns =
-    (o : Order) (s : List ℕ) (c : Cursor) (fs : List Item) (out : List ℕ) → areLayout fs ≡ true → cursorRefusal o s c ≡ done → length fs ≤ length out →
-    let answer = runOf o s c (compile fs) (length out) in
-    let results = runOut o s c (compile fs) out in
+-- a plan p of fields fs, run from a cursor c of the slice s into results out
+abbrev pub Runs : Order → List ℕ → Cursor → List ℕ → List Item → List ℕ → Type 0
+Runs o s c p fs out =
+    let answer = runOf o s c p (length out) in
+    let results = runOut o s c p out in
     -- it is refused, by 9, exactly if fewer bits are left than the fields take, and then nothing changes
     ((answer .refusal ≡ tooFew) ↔ (bitsLeft s c < bitsOf fs))
     × (bitsLeft s c < bitsOf fs → (answer ≡ moved tooFew c) × (results ≡ out))
@@ -236,6 +272,22 @@ PlanRuns =
     -- and refusal, values and end are those of reading field by field
     × (answer .refusal ≡ readFields o s c fs .refusal)
     × (bitsOf fs ≤ bitsLeft s c → (results ≡ sets out 0 (readFields o s c fs .values)) × (place (answer .cursor) ≡ place (readFields o s c fs .cursor)))
+
+-- the bytes that `compile` left of a layout l in an output m are run so, from a cursor that belongs into results with room
+abbrev pub PlanRuns : Type 0
+PlanRuns =
+    (o : Order) (s : List ℕ) (c : Cursor) (l m out : List ℕ) → compileOf l (length m) .refusal ≡ done → cursorRefusal o s c ≡ done → length (itemsOf l) ≤ length out
+    → Runs o s c (take (compileOf l (length m) .length) (compileOut l m)) (itemsOf l) out
+
+-- they are the plan of the layout's fields
+abbrev pub PlansLeft : Type 0
+PlansLeft =
+    (l m : List ℕ) → compileOf l (length m) .refusal ≡ done
+    → (take (compileOf l (length m) .length) (compileOut l m) ≡ compile (itemsOf l)) × (areLayout (itemsOf l) ≡ true)
+
+-- the check refuses, by 6, exactly the bytes within the limit that no layout compiles to
+abbrev pub PlansRefused : Type 0
+PlansRefused = (p : List ℕ) → length p ≤ longest → (checkOf p ≡ badPlan) ↔ ((fs : List Item) → areLayout fs ≡ true → compile fs ≡ p → ⊥)
 
 -- bytes pass the check exactly if some layout compiles to them
 abbrev pub PlansExactly : Type 0
@@ -280,12 +332,37 @@ RecordBack =
     (s : List ℕ) (w : Writer) (r : Record) → S.packOf (length s) w r .refusal ≡ done
     → recordAt (W.flushOut Big (S.packOut s w r) (S.packOf (length s) w r .writer)) (bitsWritten w) ≡ r
 
--- records that fit, packed and flushed, are read back from the written bytes alone, with a good tail; record i starts at bit 89 i
+-- records that fit are read back from their strip, which has a good tail; record i starts at bit 89 i
 abbrev pub StripBack : Type 0
 StripBack =
-    (rs : List Record) (s : List ℕ) → allFit rs ≡ true → length s ≤ longest → stripLength (length rs) ≤ length s →
-    let b = take (stripLength (length rs)) (S.stripOut rs s) in
-    (recordsOf b ≡ rs) × (tailGood b ≡ true) × ((i : ℕ) → i < length rs → recordAt b (recordBits * i) ≡ getD rs i noRecord)
+    (rs : List Record) → allFit rs ≡ true →
+    let b = stripBytes rs in
+    (length b ≡ stripLength (length rs)) × (recordsOf b ≡ rs) × (tailGood b ≡ true) × ((i : ℕ) → i < length rs → recordAt b (recordBits * i) ≡ getD rs i noRecord)
+
+-- and a strip with a good tail is the strip of its records, byte for byte
+abbrev pub StripSame : Type 0
+StripSame = (s : List ℕ) → ((i : ℕ) → getD s i 0 < 256) → tailGood s ≡ true → stripBytes (recordsOf s) ≡ s
+
+-- pack_strip sets the strip of the records at the output's front, and nothing else; pack_record for each of them and a flush leave the same
+abbrev pub StripPacked : Type 0
+StripPacked =
+    (ns : List ℕ) (n : ℕ) (s : List ℕ) → S.stripOf ns n (length s) .refusal ≡ done →
+    let each = packEach s (W.newOf (length s) .writer) (recordsIn n ns) in
+    let flushed = W.flushOf Big (length s) (each .writer) in
+    (S.packedOut ns n s ≡ sets s 0 (stripBytes (recordsIn n ns)))
+    × (each .refusal ≡ done)
+    × (flushed .refusal ≡ done)
+    × (flushed .writer .written ≡ S.stripOf ns n (length s) .length)
+    × (W.flushOut Big (each .out) (each .writer) ≡ S.packedOut ns n s)
+
+-- read_record again and again, from a fresh cursor, gives the strip's records in their order, and then 9
+abbrev pub EachRead : Type 0
+EachRead =
+    (s : List ℕ) → length s ≤ longest →
+    ((i : ℕ) → i < countOf s →
+    let r = S.readOf s (readTimes i s (R.newOf s .cursor)) in
+    (r .refusal ≡ done) × (r .found ≡ getD (recordsOf s) i noRecord))
+    × (S.readOf s (readTimes (countOf s) s (R.newOf s .cursor)) .refusal ≡ tooFew)
 
 -- numbers of 64 bits that were packed are read back, every one, into any list with room
 abbrev pub NumbersBack : Type 0
@@ -305,11 +382,49 @@ TextsExactly =
 abbrev pub TextsPack : Type 0
 TextsPack =
     (t out : List ℕ) (rs : List Record) → length t ≤ longest → length out ≤ longest → GoodText t rs → stripLength (length rs) ≤ length out
-    → (_≡_ {A = Packed} (X.packOf t (length out)) (record { refusal = done; length = stripLength (length rs); line = 0 })) × (X.packOut t out ≡ S.stripOut rs out)
+    → (_≡_ {A = Packed} (X.packOf t (length out)) (record { refusal = done; length = stripLength (length rs); line = 0 })) × (X.packOut t out ≡ sets out 0 (stripBytes rs))
 
--- the text of a strip with a good tail packs, into a strip with the same records and a good tail
+-- a text is refused by 7 with line n exactly if line n is its first bad one
+abbrev pub BadLineExactly : Type 0
+BadLineExactly =
+    (t : List ℕ) (len n : ℕ) → length t ≤ longest → len ≤ longest
+    → ((X.packOf t len .refusal ≡ badLine) × (X.packOf t len .line ≡ n)) ↔ FirstBad t n
+
+-- and a text that does not pack, whatever the room, has one
+abbrev pub BadLineThere : Type 0
+BadLineThere = (t : List ℕ) → length t ≤ longest → ((rs : List Record) → GoodText t rs → ⊥) → (n : ℕ) × FirstBad t n
+
+-- text, strip, text: a text whose dates all have five decimals is the text of the strip that it packs to
+abbrev pub TextsAgain : Type 0
+TextsAgain =
+    (t out : List ℕ) (rs : List Record) (g : GoodText t rs) → AllFive (g .lines .parts) → length t ≤ longest → length out ≤ longest → stripLength (length rs) ≤ length out
+    → textOf (take (X.packOf t (length out) .length) (X.packOut t out)) ≡ t
+
+-- strip, text, strip: the text of a strip with a good tail packs to that strip again, byte for byte
 abbrev pub TextsBack : Type 0
 TextsBack =
-    (s out : List ℕ) → tailGood s ≡ true → length (textOf s) ≤ longest → length out ≤ longest → stripLength (countOf s) ≤ length out →
-    let b = take (X.packOf (textOf s) (length out) .length) (X.packOut (textOf s) out) in
-    (X.packOf (textOf s) (length out) .refusal ≡ done) × (recordsOf b ≡ recordsOf s) × (tailGood b ≡ true)
+    (s out : List ℕ) → ((i : ℕ) → getD s i 0 < 256) → tailGood s ≡ true → length (textOf s) ≤ longest → length out ≤ longest → length s ≤ length out
+    → (_≡_ {A = Packed} (X.packOf (textOf s) (length out)) (record { refusal = done; length = length s; line = 0 })) × (X.packOut (textOf s) out ≡ sets out 0 s)
+
+-- ---- programs: all that they write is `listAnswer` or `packAnswer` of all that they read
+
+-- beyond 65,536 bytes that is `too long`; else the text of the strip, and the strip of a text of the grammar or the first bad line of any other
+abbrev pub AnswersAre : Type 0
+AnswersAre =
+    ((s : List ℕ) → (65536 < length s → listAnswer s ≡ tooLongSaid) × (length s ≤ 65536 → listAnswer s ≡ textOf s))
+    × ((t : List ℕ) → (65536 < length t → packAnswer t ≡ tooLongSaid)
+    × (length t ≤ 65536 → ((rs : List Record) → GoodText t rs → packAnswer t ≡ stripBytes rs) × ((n : ℕ) → FirstBad t n → packAnswer t ≡ badLineSaid n)))
+
+-- no message is a strip, so that what strippack wrote tells which it is
+abbrev pub MessagesApart : Type 0
+MessagesApart = (rs : List Record) → allFit rs ≡ true → (stripBytes rs ≡ tooLongSaid → ⊥) × ((n : ℕ) → n < 10 ^ 10 → stripBytes rs ≡ badLineSaid n → ⊥)
+
+-- every answer has room in the output that a program lends
+abbrev pub AnswersFit : Type 0
+AnswersFit = ((s : List ℕ) → length (listAnswer s) ≤ 262144) × ((t : List ℕ) → length (packAnswer t) ≤ 65536)
+
+-- strips of up to 1,597 records with a good tail always go to text and back; one of 1,598 does not
+abbrev pub AnswersBack : Type 0
+AnswersBack =
+    ((s : List ℕ) → ((i : ℕ) → getD s i 0 < 256) → tailGood s ≡ true → countOf s ≤ 1597 → packAnswer (listAnswer s) ≡ s)
+    × ((s : List ℕ) × (countOf s ≡ 1598) × (tailGood s ≡ true) × (packAnswer (listAnswer s) ≡ tooLongSaid))

@@ -6,7 +6,7 @@ use lib.Dec.{leb, eqb}
 use native.Mathlib.Omega.{arith}
 use borrow.Author.Tests.{leb-true, leb-false, le-leb, lt-leb}
 use Rattle.counts.specs.declared.Counts.{Counts}
-use Rattle.counts.specs.Counts.{place, bitsLeft, bytesLeft, Within, afterRefill, afterTake, afterRead, afterPass, afterEights, passedOver, afterBeyond, afterBytes}
+use Rattle.counts.specs.Counts.{bitsLeft, bytesLeft, Within, afterRefill, afterTake, afterRead, afterPass, afterEights, passedOver, afterBeyond, afterBytes}
 use Rattle.counts.proofs.CountLaws.{Moved, moved-left, moved-room, moved-then, refill-moved, take-moved, take-none, read-moved}
 
 -- ---- reads of eight bits
@@ -74,9 +74,6 @@ module _ {len : ℕ} {k : Counts} (h : Within len k) (n : ℕ) (g : n ≤ bytesL
 
   pub bytes-within : Within len (afterBytes len n k)
   bytes-within = bytes-moved .within
-
-  pub bytes-place : place (afterBytes len n k) ≡ place k + 8 * n
-  bytes-place = bytes-moved .ahead
 
   pub bytes-left : bitsLeft len (afterBytes len n k) ≡ bitsLeft len k - 8 * n
   bytes-left = moved-left bytes-moved h

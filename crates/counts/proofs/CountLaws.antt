@@ -190,12 +190,3 @@ module _ {len : ℕ} {k : Counts} (h : Within len k) (w : ℕ) (a : w ≤ 64) (b
           let c = leb-false w 56 e in
           let x : Moved len 56 k (wide₂ len w k) = record { within = wide-within₃ h w; ahead = wide-place h w c a b } in
           subst (Moved len w k) (wide-counts len w k c) (moved-then x (take-moved (x .within) (w - 56) (wide-rest h w c a b)) (omega arith))
-
-  pub read-within : Within len (afterRead len w k)
-  read-within = read-moved .within
-
-  pub read-place : place (afterRead len w k) ≡ place k + w
-  read-place = read-moved .ahead
-
-  pub read-left : bitsLeft len (afterRead len w k) ≡ bitsLeft len k - w
-  read-left = moved-left read-moved h

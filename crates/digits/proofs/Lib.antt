@@ -1,3 +1,3 @@
-mod RunLaws
+pub mod RunLaws
 pub mod PartLaws
 pub mod PlaceLaws

@@ -22,7 +22,7 @@ sat-from (b ∷ s) a =
     sym (sat-from s (10 * sat a + (b - zeroDigit))) ∙ ap (λ (n : ℕ). sat (valueFrom n s)) e ∙ sat-from s (10 * a + (b - zeroDigit))
 
 -- n digits spell less than 10 ^ n
-value-lt : {s : List ℕ} (a : ℕ) → Digits s → valueFrom a s < suc a * 10 ^ length s
+pub value-lt : {s : List ℕ} (a : ℕ) → Digits s → valueFrom a s < suc a * 10 ^ length s
 unfolding valueFrom
 value-lt a none = omega arith
 value-lt a (digit {b} {s} h k d) =
@@ -32,6 +32,18 @@ value-lt a (digit {b} {s} h k d) =
     let p : 10 ^ suc (length s) ≡ 10 * 10 ^ length s = pow-succ' 10 (length s) in
     let e : suc a * 10 * 10 ^ length s ≡ suc a * 10 ^ suc (length s) = mul-assoc (suc a) 10 (10 ^ length s) ∙ ap (λ (n : ℕ). suc a * n) (sym p) in
     subst (λ (n : ℕ). valueFrom (10 * a + (b - zeroDigit)) s < n) e (omega arith)
+
+-- and no less than those in front of them, moved n places
+pub value-least : (s : List ℕ) (a : ℕ) → a * 10 ^ length s ≤ valueFrom a s
+unfolding valueFrom
+value-least [] a = omega arith
+value-least (b ∷ s) a =
+    let i = value-least s (10 * a + (b - zeroDigit)) in
+    let x : a * 10 ≤ 10 * a + (b - zeroDigit) = omega arith in
+    let m = mul-le-mul-right (10 ^ length s) x in
+    let p : 10 ^ suc (length s) ≡ 10 * 10 ^ length s = pow-succ' 10 (length s) in
+    let e : a * 10 * 10 ^ length s ≡ a * 10 ^ suc (length s) = mul-assoc a 10 (10 ^ length s) ∙ ap (λ (n : ℕ). a * n) (sym p) in
+    subst (λ (n : ℕ). n ≤ valueFrom (10 * a + (b - zeroDigit)) s) e (omega arith)
 
 -- twelve digits or fewer are below the bound
 pub value-most : {s : List ℕ} → Digits s → length s ≤ 12 → valueOf s < most

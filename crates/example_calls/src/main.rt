@@ -28,6 +28,7 @@ fn main() {
     lists();
     lines();
     texts();
+    whole_jobs();
     hosts();
 }
 
@@ -288,6 +289,14 @@ fn floats_and_signs() {
     let nan = floats::double_of_bits(0x7ff4_0000_0000_0001);
     let bits = floats::bits_of_double(nan);
     expect(b"bits_of_double", bits == 0x7ff4_0000_0000_0001);
+
+    let zero = floats::single_of_bits(0);
+    let minus = floats::single_of_bits(0x8000_0000);
+    expect(b"same_single", !floats::same_single(zero, minus));
+
+    let zero = floats::double_of_bits(0);
+    let minus = floats::double_of_bits(0x8000_0000_0000_0000);
+    expect(b"same_double", !floats::same_double(zero, minus));
 }
 
 fn typed_values() {
@@ -298,6 +307,9 @@ fn typed_values() {
     let two = typed::typed_of_bits(Kind::Signed, 0xffff_ffff_ffff_fffe);
     let bits = typed::bits_of_typed(two);
     expect(b"bits_of_typed", bits == 0xffff_ffff_ffff_fffe);
+
+    let near = typed::typed_of_bits(Kind::Unsigned, 0xffff_ffff_ffff_fffe);
+    expect(b"same_typed", !typed::same_typed(two, near));
 
     let _wrote = typed::write_typed(blank, Order::Big, &mut out, two, 8);
     expect(b"write_typed", out[0] == 0xfe);
@@ -388,6 +400,16 @@ fn texts() {
 
     let packed = text::pack_text(b"star,date\n", &mut out);
     expect(b"pack_text", packed.line == 1);
+}
+
+fn whole_jobs() {
+    let mut out = [0u8; 64];
+
+    let answer = jobs::list_answer(b"\x00", &mut out);
+    expect(b"list_answer", answer.length == 40);
+
+    let answer = jobs::pack_answer(b"star,date\n", &mut out);
+    expect(b"pack_answer", answer.length == 11);
 }
 
 fn hosts() {

@@ -1,11 +1,13 @@
--- Every bit pattern is kept, and a value's bits are no more than its format has. Each law is over the format, then cited for both.
-use mathlib.Core.Path.{_≡_, refl, _∙_}
+-- Every bit pattern is kept, a value's bits are no more than its format has, and bits make the plain form of the value that has them.
+-- Each law is over the format, then cited for both.
+use mathlib.Core.Path.{_≡_, refl, _∙_, subst}
 use mathlib.Core.Bool.{Bool, true, false, cond}
 use Prim.Native.Nat.{ℕ, _<_, _*_, _^_}
 use lib.Dec.{T}
 use lib.Ieee.{Float, Format, binary32, binary64, top, nanBits, ofBits, toBits, fits}
 use lib.Ieee.Bits.{toBits-ofBits, toBits-lt, nanBits-is}
-use Rattle.floats.specs.Floats.{singleOf, singleBits, doubleOf, doubleBits}
+use borrow.Author.Tests.{eq-eqb}
+use Rattle.floats.specs.Floats.{singleOf, singleBits, sameSingle, SingleHeld, doubleOf, doubleBits, sameDouble, DoubleHeld}
 use Rattle.floats.specs.declared.Single.{Single}
 use Rattle.floats.specs.declared.Single.the-variants as S
 use Rattle.floats.specs.declared.Double.{Double}
@@ -55,16 +57,6 @@ double-kept = kept binary64 doubleBits D.Bits D.Number (λ b. refl) (λ x. refl)
 pub number-lt : (f : Format) (x : Float) → T (fits f x) → toBits f x < 2 ^ width f
 number-lt f x h = rw twice-top at (toBits-lt f x h)
 
--- a single that a machine can hold
-abbrev pub SingleHeld : Single → Type 0
-SingleHeld (S.Number x) = T (fits binary32 x)
-SingleHeld (S.Bits b) = b < 2 ^ 32
-
--- a double that a machine can hold
-abbrev pub DoubleHeld : Double → Type 0
-DoubleHeld (D.Number x) = T (fits binary64 x)
-DoubleHeld (D.Bits b) = b < 2 ^ 64
-
 -- so are the bits of every single and every double that a machine can hold
 pub single-bits-lt : (v : Single) → SingleHeld v → singleBits v < 2 ^ 32
 unfolding singleBits
@@ -75,3 +67,32 @@ pub double-bits-lt : (v : Double) → DoubleHeld v → doubleBits v < 2 ^ 64
 unfolding doubleBits
 double-bits-lt (D.Number x) h = number-lt binary64 x h
 double-bits-lt (D.Bits b) h = h
+
+-- ---- the plain form
+
+-- a value made of the bits of a single or a double is the same
+pub single-same : (v : Single) → SingleHeld v → sameSingle (singleOf (singleBits v)) v ≡ true
+unfolding sameSingle
+single-same v h = eq-eqb _ _ (single-kept (singleBits v) (single-bits-lt v h))
+
+pub double-same : (v : Double) → DoubleHeld v → sameDouble (doubleOf (doubleBits v)) v ≡ true
+unfolding sameDouble
+double-same v h = eq-eqb _ _ (double-kept (doubleBits v) (double-bits-lt v h))
+
+-- values whose bits are kept only of a NaN
+abbrev pub PlainSingle : Single → Type 0
+PlainSingle (S.Number x) = true ≡ true
+PlainSingle (S.Bits b) = nanBits binary32 b ≡ true
+
+abbrev pub PlainDouble : Double → Type 0
+PlainDouble (D.Number x) = true ≡ true
+PlainDouble (D.Bits b) = nanBits binary64 b ≡ true
+
+-- so are all that are made of bits
+pub single-plain : (b n : ℕ) → singleOf b ≡ S.Bits n → nanBits binary32 n ≡ true
+unfolding singleOf
+single-plain b n e = subst PlainSingle e (cond-either PlainSingle (nanBits binary32 b) (λ t. t) (λ t. refl))
+
+pub double-plain : (b n : ℕ) → doubleOf b ≡ D.Bits n → nanBits binary64 n ≡ true
+unfolding doubleOf
+double-plain b n e = subst PlainDouble e (cond-either PlainDouble (nanBits binary64 b) (λ t. t) (λ t. refl))

@@ -1,15 +1,15 @@
 // Floats that keep every bit pattern. The language's own f32 and f64 have one NaN with no payload, so a single or a double is
-// a number, or the bits of a NaN.
+// a number, or bits. A value means its bits: two values are the same float exactly if their bits are.
 ghost use mathlib.Core.Path.{_≡_};
-ghost use Rattle.floats.specs.Floats.{singleOf, singleBits, doubleOf, doubleBits};
+ghost use Rattle.floats.specs.Floats.{singleOf, singleBits, sameSingle, doubleOf, doubleBits, sameDouble};
 
-// A number of 32 bits, or the 32 bits of a NaN.
+// A number of 32 bits, or the 32 bits of a NaN. `Bits` that are no NaN's are the number with these bits; no read gives them.
 pub enum Single {
     Number(f32),
     Bits(u32),
 }
 
-// A number of 64 bits, or the 64 bits of a NaN.
+// A number of 64 bits, or the 64 bits of a NaN. `Bits` that are no NaN's are the number with these bits; no read gives them.
 pub enum Double {
     Number(f64),
     Bits(u64),
@@ -40,6 +40,16 @@ pub fn bits_of_single(value: Single) -> u32
         Single::Number(x) => { if x != x { 0x7fc0_0000 } else { f32::to_bits(x) } }
         Single::Bits(bits) => bits,
     }
+}
+
+// Whether two singles have the same bits: 0 and -0 have not, a number and its own bits have.
+//     let zero = floats::single_of_bits(0);
+//     let minus = floats::single_of_bits(0x8000_0000);
+//     expect(b"same_single", !floats::same_single(zero, minus));
+pub fn same_single(a: Single, b: Single) -> bool
+    ensures { λ r. ⌜ r ≡ sameSingle a b ⌝ }
+{
+    bits_of_single(a) == bits_of_single(b)
 }
 
 // The double of 64 bits: their number, or the bits themselves where they are a NaN's.
@@ -73,4 +83,14 @@ pub fn bits_of_double(value: Double) -> u64
         }
         Double::Bits(bits) => bits,
     }
+}
+
+// Whether two doubles have the same bits: 0 and -0 have not, a number and its own bits have.
+//     let zero = floats::double_of_bits(0);
+//     let minus = floats::double_of_bits(0x8000_0000_0000_0000);
+//     expect(b"same_double", !floats::same_double(zero, minus));
+pub fn same_double(a: Double, b: Double) -> bool
+    ensures { λ r. ⌜ r ≡ sameDouble a b ⌝ }
+{
+    bits_of_double(a) == bits_of_double(b)
 }

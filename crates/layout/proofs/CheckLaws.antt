@@ -32,12 +32,6 @@ module _ (low g b : ℕ) (again on : Bool) where
   pub checked-refill : b ≡ refill → low ≡ 0 → checked low g b again on ≡ again
   checked-refill e z = rw (eq-eqb b 0 e, eq-eqb low 0 z)
 
-  pub checked-twice : b ≡ refill → (low ≡ 0 → ⊥) → checked low g b again on ≡ false
-  checked-twice e z = rw (eq-eqb b 0 e, ne-eqb low 0 z)
-
-  pub checked-unfit : (b ≡ refill → ⊥) → fits low g b ≡ false → checked low g b again on ≡ false
-  checked-unfit e f = rw (ne-eqb b 0 e, f)
-
   pub checked-fit : (b ≡ refill → ⊥) → fits low g b ≡ true → checked low g b again on ≡ on
   checked-fit e f = rw (ne-eqb b 0 e, f)
 
@@ -49,9 +43,6 @@ module _ (last : Bool) (n : ℕ) (on : Bool) where
   closed-on e z = let h : 0 < n = omega arith in rw (e, lt-ltb 0 n h)
 
 module _ (g n b : ℕ) (s : List ℕ) where
-  pub atOn-wide : b ≡ wide → atOn g n b s ≡ inWide 0 (g - 56) n s
-  atOn-wide e = rw (eq-eqb b wide e)
-
   pub atOn-end : (b ≡ wide → ⊥) → atOn g n b s ≡ closed (ends b) n (atField 0 (g - count b) (n - 1) s)
   atOn-end e = rw (ne-eqb b wide e)
 

@@ -32,9 +32,6 @@ total-is a (b ∷ s) e =
     (λ p. rw p (omega (arith, total-is 0 s (whole-take a b s p e .1))))
     (λ p. rw p (omega (arith, total-is (a + count b) s (whole-on a b s p e .1))))
 
-pub whole-bits : (a : ℕ) (l : List ℕ) → whole a l ≡ true → a ≤ bitsOf (decode a l)
-whole-bits a l e = omega (arith, total-is a l e)
-
 pub plan-ended : (p : List ℕ) → ended p ≡ length (decode 0 p)
 plan-ended p = sym (ended-is 0 p)
 

@@ -18,14 +18,6 @@ use Rattle.bits.proofs.TestLaws.{both, both-true, by-test}
 -- ---- never short
 
 module _ (g b : ℕ) (s : List ℕ) where
-  pub enough-take : (b ≡ refill → ⊥) → enough g (b ∷ s) ≡ true → (count b ≤ g) × (enough (g - count b) s ≡ true)
-  unfolding enough
-  enough-take h e = let (known, rest) = both {a = leb (count b) g} (rw (ne-eqb b 0 h) at e) in (leb-true _ _ known, rest)
-
-  pub enough-refill : b ≡ refill → enough g (b ∷ s) ≡ true → enough 56 s ≡ true
-  unfolding enough
-  enough-refill h e = rw (eq-eqb b 0 h) at e
-
   take-enough : (b ≡ refill → ⊥) → count b ≤ g → enough (g - count b) s ≡ true → enough g (b ∷ s) ≡ true
   unfolding enough
   take-enough h k e = rw (ne-eqb b 0 h) (both-true (le-leb _ _ k) e)

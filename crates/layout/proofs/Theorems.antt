@@ -1,24 +1,32 @@
 -- The theorems of layouts and plans: bytes pass the check exactly if some layout compiles to them, only one does, and decoding finds it.
 use Prim.Native.Nat.{ℕ, _%_, _≤_}
-use mathlib.Core.Path.{_≡_, refl, sym, ap, _∙_}
+use mathlib.Core.Path.{_≡_, refl, sym, ap, _∙_, subst}
+use mathlib.Core.Logic.{_↔_}
 use mathlib.Core.Bool.{true}
 use mathlib.Core.List.{List, [], _∷_}
 use native.Mathlib.Omega.{arith}
-use lib.ListN.{length}
+use lib.ListN.{length, take}
 use lib.Dec.{eqb}
 use borrow.Author.Tests.{le-leb, le-ltb, eq-eqb}
-use Rattle.bits.specs.Refusals.{longest, done}
+use Rattle.bits.specs.Refusals.{longest, done, badPlan, orElse, firstRefusal}
 use Rattle.bits.proofs.RefusalLaws.{all-pass}
 use Rattle.layout.specs.Layout.{Item, itemsOf, goodItems, areLayout, isLayout}
 use Rattle.layout.specs.Bytes.{bytesOf}
 use Rattle.layout.specs.Plan.{takes, compile, decode}
 use Rattle.layout.specs.Check.{isPlan}
-use Rattle.layout.specs.Answers.{planOf, checkOf}
+use Rattle.layout.specs.Answers.{planOf, compileOf, compileOut, checkOf}
+use Rattle.bits.proofs.StoreLaws.{front-take}
+use Rattle.layout.proofs.AnswerLaws.{compile-done}
 use Rattle.layout.proofs.LayoutLaws.{layout-of, length-bytes}
 use Rattle.layout.proofs.DecodeLaws.{decode-refilled, decode-takes}
 use Rattle.layout.proofs.CompileLaws.{passes-from, length-compiled}
 use Rattle.layout.proofs.PassLaws.{passes-compiled}
-use Rattle.bits.proofs.TestLaws.{both, both-true}
+use Rattle.bits.proofs.TestLaws.{both, both-true, by-test}
+
+-- the fields of a layout's bytes are a layout
+pub items-layout : (s : List ℕ) → isLayout s ≡ true → areLayout (itemsOf s) ≡ true
+unfolding isLayout
+items-layout s e = both {a = eqb (length s % 2) 0} e .1
 
 -- what a layout compiles to is a plan
 pub compiled-passes : (fs : List Item) → areLayout fs ≡ true → isPlan (compile fs) ≡ true
@@ -42,14 +50,35 @@ plan-length p e =
     let (few, good, same) = passes-compiled 64 p e in
     omega (arith, length-compiled 0 (decode 0 p), ap length same)
 
--- what is compiled from a layout's bytes, the check of plans accepts
-pub compiled-accepted : (s : List ℕ) → isLayout s ≡ true → checkOf (planOf s) ≡ done
-unfolding isLayout checkOf
-compiled-accepted s e =
-    let (even, fields) = both {a = eqb (length s % 2) 0} e in
-    let plan = compiled-passes (itemsOf s) fields in
-    let short : length (planOf s) ≤ longest = omega (arith, plan-length (planOf s) plan) in
-    all-pass _ (rw (le-ltb longest (length (planOf s)) short), rw plan)
+-- the check of plans accepts a plan
+pub plan-accepted : (p : List ℕ) → isPlan p ≡ true → checkOf p ≡ done
+unfolding checkOf
+plan-accepted p plan =
+    let short : length p ≤ longest = omega (arith, plan-length p plan) in
+    all-pass _ (rw (le-ltb longest (length p) short), rw plan)
+
+-- and of bytes within the limit it refuses, by 6, exactly those that no layout compiles to
+pub check-exactly : (p : List ℕ) → length p ≤ longest
+    → (checkOf p ≡ badPlan) ↔ ((fs : List Item) → areLayout fs ≡ true → compile fs ≡ p → ⊥)
+unfolding checkOf firstRefusal orElse
+check-exactly p short = (
+  λ e fs layout same.
+      let plan : isPlan p ≡ true = subst (λ (q : List ℕ). isPlan q ≡ true) same (compiled-passes fs layout) in
+      omega (arith, e, plan-accepted p plan),
+  λ none.
+      by-test (isPlan p)
+      (λ t. absurd (none (decode 0 p) (plan-layout p t .0) (plan-layout p t .1)))
+      (λ t. rw (le-ltb longest (length p) short, t)),
+)
+
+-- what `compile` leaves in its output, as many bytes as it answers, is the plan of the layout's fields
+pub compiled-left : (l m : List ℕ) → compileOf l (length m) .refusal ≡ done →
+    let p = take (compileOf l (length m) .length) (compileOut l m) in
+    (p ≡ compile (itemsOf l)) × (areLayout (itemsOf l) ≡ true)
+unfolding compileOf compileOut
+compiled-left l m z =
+    let (_, _, layout, room) = compile-done l (length m) z in
+    (rw z (front-take (planOf l) m room), items-layout l layout)
 
 -- fields are read back from their bytes
 pub bytes-items : (fs : List Item) → itemsOf (bytesOf fs) ≡ fs

@@ -1,14 +1,14 @@
 -- Laws of a line's numbers at places of a text.
 use Prim.Native.Nat.{ℕ, _+_, _-_, _*_, _%_, _^_, _<_, _≤_}
 use mathlib.Core.Path.{_≡_, refl, sym, ap, _∙_, subst}
-use mathlib.Core.Bool.{Bool, true, false, cond, _&&_}
+use mathlib.Core.Bool.{Bool, true, false, cond}
 use mathlib.Core.List.{List}
 use lib.ListN.{length, drop}
 use lib.Seq.{drop-drop}
 use lib.Dec.{leb}
 use native.Mathlib.Omega.{arith}
 use borrow.Author.Tests.{leb-true}
-use Rattle.bits.proofs.TestLaws.{both, by-test}
+use Rattle.bits.proofs.TestLaws.{by-test}
 use Rattle.record.specs.Record.{depth}
 use Rattle.digits.specs.declared.inner.PartAt.{PartAt}
 use Rattle.digits.specs.Digits.{comma, point, minus, newline}
@@ -68,7 +68,9 @@ complement-lt : (b : Bool) (n : ℕ) → n ≤ 1001 * most → complement b n < 
 unfolding complement
 complement-lt false n h = omega arith
 complement-lt true n h =
-    by-test (leb 1 n && leb n depth) (λ p. let l = leb-true 1 n (both p .0) in rw p (omega arith)) (λ p. rw p (omega arith))
+    by-test (leb 1 n)
+    (λ p. by-test (leb n depth) (λ q. let l = leb-true 1 n p in rw (p, q) (omega arith)) (λ q. rw (p, q) (omega arith)))
+    (λ p. rw p (omega arith))
 
 -- so it is found again from its distance
 pub distance-stands : (s : List ℕ) (at : ℕ) (d : PartAt) (v : ℕ) → Stands s d (fromLeast (magnitudeAt (drop at s))) → v ≡ (d .value + (2 ^ 64 - depth)) % 2 ^ 64

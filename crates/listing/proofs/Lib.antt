@@ -2,3 +2,4 @@ pub mod Theorems
 mod Examples
 pub mod TripLaws
 pub mod PieceLaws
+pub mod SameLaws

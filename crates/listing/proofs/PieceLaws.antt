@@ -1,20 +1,20 @@
 -- A record's line put piece by piece, and how long it is.
 use Prim.Native.Nat.{ℕ, _+_, _/_, _%_, _≤_}
-use mathlib.Core.Path.{_≡_, ap, _∙_}
+use mathlib.Core.Path.{_≡_, refl, ap, _∙_}
 use mathlib.Core.Bool.{Bool, true, false, cond}
 use mathlib.Core.List.{List, [], _∷_, _++_, append-assoc}
 use lib.ListN.{length, set, length-append}
 use lib.Seq.{sets}
-use lib.IntN.{ℤ, natAbs}
+use lib.IntN.{ℤ, pos, negℤ, natAbs}
 use native.Mathlib.Numerals.{add-one}
 use native.Mathlib.Omega.{arith}
 use Rattle.record.specs.declared.Record.{Record}
-use Rattle.record.specs.Record.{Fits}
+use Rattle.record.specs.Record.{fits, Fits}
 use Rattle.digits.specs.Digits.{comma, minus, newline}
 use Rattle.line.specs.Date.{day}
 use Rattle.line.specs.Grammar.{sign, spelled}
 use Rattle.line.proofs.GrammarLaws.{sign-append, sign-length}
-use Rattle.print.specs.Print.{places, wholeOf, fixedOf}
+use Rattle.print.specs.Print.{placesIn, places, wholeOf, fixedOf}
 use Rattle.print.proofs.DigitLaws.{digits-length, places-few}
 use Rattle.print.proofs.StoreLaws.{put-none, put-more, part-size, fixed-size}
 use Rattle.listing.specs.Listing.{isNegative, partsOf, lineOf, magnitudeSize, sizeOf}
@@ -46,6 +46,18 @@ size-few r f =
     let g = places-few 1 9 (r .filter) (omega arith) in
     let m = one-or-none (isNegative (r .magnitude)) in
     omega arith
+
+-- and some take 41: the record of the line 1048575,2748779.06943,1,-32.768,1.023,15
+abbrev pub longRecord : Record
+longRecord = record { star = 1048575; date = 274877906943; limit = 1; magnitude = negℤ (pos 32768); error = 1023; filter = 15 }
+
+pub long-fits : fits longRecord ≡ true
+unfolding fits
+long-fits = refl
+
+pub long-size : sizeOf longRecord ≡ 41
+unfolding placesIn
+long-size = refl
 
 -- ---- the magnitude
 

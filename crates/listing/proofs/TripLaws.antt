@@ -108,19 +108,19 @@ module _ (r : Record) (f : Fits r) where
 
 -- ---- a line at the front of a text
 
-module _ (r : Record) (f : Fits r) (s : List ℕ) where
-  line-append : lineOf r ++ s ≡ spelled (partsOf r) s
-  unfolding lineOf
-  line-append = spelled-append (partsOf r) s
+pub line-append : (r : Record) (s : List ℕ) → lineOf r ++ s ≡ spelled (partsOf r) s
+unfolding lineOf
+line-append r s = spelled-append (partsOf r) s
 
+module _ (r : Record) (f : Fits r) (s : List ℕ) where
   -- a text that begins with a record's line begins with a line
   pub line-begins : begins (lineOf r ++ s) ≡ true
-  line-begins = ap begins line-append ∙ begins-spelled (partsOf r) s (parts-good r f)
+  line-begins = ap begins (line-append r s) ∙ begins-spelled (partsOf r) s (parts-good r f)
 
   -- whose record is that one
   pub line-first : firstOf (lineOf r ++ s) ≡ r
-  line-first = ap firstOf line-append ∙ first-spelled (partsOf r) s (parts-good r f) ∙ parts-mean r f
+  line-first = ap firstOf (line-append r s) ∙ first-spelled (partsOf r) s (parts-good r f) ∙ parts-mean r f
 
   -- and behind which the text goes on
   pub line-behind : behind (lineOf r ++ s) ≡ s
-  line-behind = ap behind line-append ∙ behind-spelled (partsOf r) s (parts-good r f)
+  line-behind = ap behind (line-append r s) ∙ behind-spelled (partsOf r) s (parts-good r f)

@@ -2,7 +2,7 @@
 use Prim.Native.Nat.{ℕ, _+_, _-_, _*_, _/_, _%_, _^_, _<_, _≤_}
 use mathlib.Core.Path.{_≡_, refl, sym, ap, ap₂, _∙_, subst}
 use mathlib.Core.List.{List}
-use mathlib.Core.Bool.{true, _||_}
+use mathlib.Core.Bool.{true}
 use lib.ListN.{length, getD}
 use lib.Dec.{ltb, eqb}
 use native.Mathlib.Omega.{arith}
@@ -13,11 +13,11 @@ use Rattle.bits.proofs.TestLaws.{both}
 use Rattle.bits.proofs.RefusalLaws.{passed, all-pass, test-held, at-most}
 use Rattle.bits.specs.Field.{field, join}
 use Rattle.bits.specs.Word.{first, rest, held, skipped}
-use Rattle.bits.proofs.FieldLaws.{field-split, field-cut, field-byte, byte-rest}
+use Rattle.bits.proofs.FieldLaws.{field-split, field-byte, byte-rest}
 use Rattle.bits.proofs.WordLaws.{first-held, skipped-held, skipped-field, last-held}
 use Rattle.counts.specs.declared.Counts.{Counts}
-use Rattle.counts.specs.Counts.{place, unfetched, bitsLeft, Within, afterRefill, afterTake, refillIf}
-use Rattle.counts.proofs.CountLaws.{wide₁, wide₂, if-place, short-counts, wide-place, wide-counts, take-within, refill-within, read-within}
+use Rattle.counts.specs.Counts.{place, Within, afterRefill, afterTake, refillIf}
+use Rattle.counts.proofs.CountLaws.{if-place, short-counts}
 use Rattle.lookahead.specs.declared.State.{State}
 use Rattle.lookahead.specs.declared.Taken.{Taken}
 use Rattle.lookahead.specs.State.{registerOf, countsOf, stateOf, belongs, Belongs, stateRefusal, takenOf, inside}
@@ -79,9 +79,6 @@ module _ (o : Order) (s : List ℕ) {k : Counts} where
     -- they were taken
     pub is-took : (n : ℕ) (r : Taken) → Took o s (countsOf c) n r → Took o s k n r
     is-took n r t = subst (λ (j : Counts). Took o s j n r) is-counts t
-
-    pub is-refilled : {d : State} → d ≡ stateOf o s (afterRefill (length s) (countsOf c)) → d ≡ stateOf o s (afterRefill (length s) k)
-    is-refilled f = f ∙ ap (λ (j : Counts). stateOf o s (afterRefill (length s) j)) is-counts
 
 -- ---- registers as the code computes them
 
@@ -150,18 +147,6 @@ module _ {o : Order} {s : List ℕ} {c : State} (h : Belongs o s c) (n : ℕ) (a
       ap (skipped o n) (h .holds) ∙ skipped-held o s (place (countsOf c)) n (c .lookahead) a (omega arith)
       ∙ ap (λ (p : ℕ). held o l (field o s p l)) e
 
--- ---- states after a call
-
-module _ {o : Order} {s : List ℕ} {c : State} (h : Belongs o s c) where
-  pub consume-belongs : (n : ℕ) → Belongs o s (stateOf o s (afterTake n (countsOf c)))
-  consume-belongs n = state-belongs o s (h .short) (take-within (h .within) n)
-
-  pub refill-belongs : Belongs o s (stateOf o s (afterRefill (length s) (countsOf c)))
-  refill-belongs = state-belongs o s (h .short) (refill-within (h .within))
-
-  pub read-belongs : (w : ℕ) → w ≤ 64 → w ≤ bitsLeft (length s) (countsOf c) → Belongs o s (takenOf o s (countsOf c) w .state)
-  read-belongs w a b = state-belongs o s (h .short) (read-within (h .within) w a b)
-
 -- ---- reads
 
 module _ (o : Order) (s : List ℕ) {k : Counts} (h : Within (length s) k) (w : ℕ) where
@@ -171,24 +156,3 @@ module _ (o : Order) (s : List ℕ) {k : Counts} (h : Within (length s) k) (w : 
       let v = t .0 ∙ ap (λ (p : ℕ). field o s p w) (if-place h (ltb (k .lookahead) w)) in
       let d = t .1 ∙ ap (stateOf o s) (short-counts (length s) w k a) in
       λ i. record { value = v i; state = d i }
-
-  module _ (a : 57 ≤ w) (b : w ≤ 64) (d : w ≤ bitsLeft (length s) k) where
-    -- a wide field is its first 56 bits and those that stand at the place after the second refill
-    wide-value :
-        join o 56 (w - 56) (field o s (place (wide₁ (length s) w k)) 56) (field o s (place (wide₂ (length s) w k)) (w - 56))
-        ≡ field o s (place k) w
-    wide-value =
-        let e : 56 ≤ w = omega arith in
-        ap₂ (λ (p q : ℕ). join o 56 (w - 56) (field o s p 56) (field o s q (w - 56)))
-        (if-place h (ltb (k .lookahead) w || ltb (unfetched (length s) k) 8))
-        (wide-place h w a b d)
-        ∙ sym (field-cut o s (place k) 56 w e)
-
-    -- 57 to 64 bits, taken as 56 and the rest, and joined
-    pub wide-read :
-        (x y : Taken) → Took o s (wide₁ (length s) w k) 56 x → Took o s (wide₂ (length s) w k) (w - 56) y →
-        {v : ℕ} → v ≡ join o 56 (w - 56) (x .value) (y .value) → record { value = v; state = y .state } ≡ takenOf o s k w
-    wide-read x y low high e =
-        let f = e ∙ ap₂ (join o 56 (w - 56)) (low .0) (high .0) ∙ wide-value in
-        let g = high .1 ∙ ap (stateOf o s) (wide-counts (length s) w k a) in
-        λ i. record { value = f i; state = g i }

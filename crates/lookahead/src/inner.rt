@@ -5,7 +5,7 @@ use bits::Order;
 use bits::refusals;
 use counts::Counts;
 ghost use mathlib.Core.Path.{_≡_};
-ghost use mathlib.Core.Bool.{true, _||_};
+ghost use mathlib.Core.Bool.{true};
 ghost use Prim.Native.Nat.{_+_, _-_, _*_, _/_, _≤_};
 ghost use lib.ListN.{length};
 ghost use lib.Dec.{ltb};
@@ -203,41 +203,6 @@ pub fn read_short(order: Order, src: &[u8], c: State, w: u32) -> Taken
     ensures { λ r. ⌜ r ≡ takenOf order (now (src .entry)) (countsOf c) w ⌝ }
 {
     take(order, src, refill_if(c.lookahead < w, order, src, c), w)
-}
-
-// Whether a read of more than 56 bits refills first.
-fn wants_refill(lookahead: u32, w: u32, unfetched: usize) -> bool
-    ensures { λ r. ⌜ r ≡ (ltb lookahead w || ltb unfetched 8) ⌝ }
-{
-    if lookahead < w { true } else { unfetched < 8 }
-}
-
-// A read of 57 to 64 bits, of which enough are left: 56, a refill, and the rest.
-pub fn read_wide(order: Order, src: &[u8], c: State, w: u32) -> Taken
-    requires { ⌜ Belongs order (now src) c × (57 ≤ w) × (w ≤ 64) × (w ≤ bitsLeft (length (now src)) (countsOf c)) ⌝ }
-    ensures { λ r. ⌜ r ≡ takenOf order (now (src .entry)) (countsOf c) w ⌝ }
-{
-    let b = wants_refill(c.lookahead, w, src.len() - c.offset);
-    let low = take(order, src, refill_if(b, order, src, c), 56);
-    let more = w - 56;
-    let middle = low.state;
-    let high = take(order, src, refill(order, src, middle), more);
-    let last = high.state;
-    Taken {
-        value: bits::inner::join_bits(order, 56, more, low.value, high.value),
-        state: last,
-    }
-}
-
-// A read of at most 64 bits, of which enough are left.
-pub fn read_bits(order: Order, src: &[u8], c: State, w: u32) -> Taken
-    requires { ⌜ Belongs order (now src) c × (w ≤ 64) × (w ≤ bitsLeft (length (now src)) (countsOf c)) ⌝ }
-    ensures { λ r. ⌜ r ≡ takenOf order (now (src .entry)) (countsOf c) w ⌝ }
-{
-    if w <= 56 {
-        return read_short(order, src, c, w);
-    }
-    read_wide(order, src, c, w)
 }
 
 // ---- between eight bytes and eight more

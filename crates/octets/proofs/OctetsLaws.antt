@@ -3,9 +3,8 @@ use mathlib.Core.Path.{_≡_, sym, ap, ap₂, _∙_, subst}
 use Prim.Native.Nat.{ℕ, _+_, _-_, _*_, _/_, _%_, _^_, _<_, _≤_}
 use native.Mathlib.Nat.{add-zero, mul-mod-left}
 use native.Mathlib.Omega.{arith}
-use mathlib.Core.List.{List, _++_}
-use lib.ListN.{length, getD, take, drop, length-take, length-drop}
-use lib.Seq.{getD-take, getD-drop}
+use mathlib.Core.List.{List}
+use lib.ListN.{length, getD}
 use lib.Pow.{mod-pow-add, shl-shr, shr-lt}
 use lib.Bits.{bitXor, xor-shifted}
 use Rattle.bits.specs.declared.Order.{Order}
@@ -14,7 +13,7 @@ use Rattle.bits.specs.Field.{join, field}
 use Rattle.bits.specs.Word.{first, rest}
 use Rattle.bits.proofs.FieldLaws.{field-split, field-byte, byte-first, byte-rest}
 use Rattle.octets.specs.Octets.{firsts, octets, byOrder, straddled}
-use Rattle.octets.proofs.FirstsLaws.{length-firsts, getD-firsts, firsts-is, firsts-same, firsts-split}
+use Rattle.octets.proofs.FirstsLaws.{length-firsts, getD-firsts, firsts-same}
 
 module _ (o : Order) (s : List ℕ) (p : ℕ) where
   pub length-octets : (n : ℕ) → length (octets o s p n) ≡ n
@@ -24,14 +23,6 @@ module _ (o : Order) (s : List ℕ) (p : ℕ) where
   pub getD-octets : (n i : ℕ) → i < n → getD (octets o s p n) i 0 ≡ field o s (p + 8 * i) 8
   unfolding octets
   getD-octets = getD-firsts (λ i. field o s (p + 8 * i) 8)
-
-  pub octets-split : (m n : ℕ) → octets o s p (m + n) ≡ octets o s p m ++ octets o s (p + 8 * m) n
-  unfolding octets
-  octets-split m n =
-      firsts-split (λ i. field o s (p + 8 * i) 8) m n
-      ∙ ap (λ (l : List ℕ). firsts (λ i. field o s (p + 8 * i) 8) m ++ l)
-      (firsts-same (λ i. field o s (p + 8 * (m + i)) 8) (λ i. field o s (p + 8 * m + 8 * i) 8) n
-      (λ i h. let e : p + 8 * (m + i) ≡ p + 8 * m + 8 * i = omega arith in ap (λ (q : ℕ). field o s q 8) e))
 
 -- ---- as the code computes
 
@@ -91,9 +82,3 @@ module _ (o : Order) (s : List ℕ) (b : (i : ℕ) → getD s i 0 < 2 ^ 8) where
   octets-bytes at n =
       firsts-same (λ i. field o s (8 * at + 8 * i) 8) (λ i. getD s (at + i) 0) n
       (λ i h. let e : 8 * at + 8 * i ≡ 8 * (at + i) = omega arith in ap (λ (p : ℕ). field o s p 8) e ∙ field-byte o s (at + i) (b (at + i)))
-
-  pub octets-whole : (at n : ℕ) → at + n ≤ length s → octets o s (8 * at) n ≡ take n (drop at s)
-  octets-whole at n h =
-      let l : length (take n (drop at s)) ≡ n = simp (length-take, length-drop) (omega arith) in
-      octets-bytes at n
-      ∙ sym (firsts-is (λ i. getD s (at + i) 0) n (take n (drop at s)) l (λ i k. getD-take n (drop at s) i 0 k ∙ getD-drop at s i 0))

@@ -11,7 +11,7 @@ use Rattle.bits.specs.declared.Order.{Order}
 use Rattle.bits.specs.declared.Order.the-variants.{Little, Big}
 use Rattle.bits.specs.Field.{position, bit, join, field}
 use Rattle.bits.specs.Word.{first, rest}
-use Rattle.bits.proofs.JoinLaws.{join-none, first-join, rest-join, rest-lt, rest-none}
+use Rattle.bits.proofs.JoinLaws.{join-none, join-parts, first-join, rest-join, first-lt, rest-lt, rest-none}
 use Rattle.bits.proofs.FieldLaws.{field-lt, field-split, field-same, field-byte}
 use Rattle.packing.specs.Packing.{bytesOf}
 use Rattle.packing.proofs.PartLaws.{first-of-longer, rest-of-longer, rest-twice}
@@ -104,3 +104,15 @@ bytes-field o (b ∷ bs) h =
     ap₂ (λ (k v : ℕ). first o 8 k v ∷ bytesOf o n 0 (rest o 8 k v)) (add-zero (8 * n)) (field-cons o b bs n (h 0))
     ∙ ap₂ (λ (k v : ℕ). k ∷ bytesOf o n 0 v) (first-join o 8 (8 * n) (h 0) lt) (rest-join o 8 (8 * n) (h 0) lt)
     ∙ ap (λ (l : List ℕ). b ∷ l) (bytes-field o bs (λ i. h (suc i)))
+
+-- the field of all bytes of a number is the number
+pub field-bytes : (o : Order) (n : ℕ) {v : ℕ} → v < 2 ^ (8 * n) → field o (bytesOf o n 0 v) 0 (8 * n) ≡ v
+unfolding bytesOf field
+field-bytes o zero {v} h = omega arith
+field-bytes o (suc n) {v} h =
+    let e : 8 * suc n ≡ 8 + 8 * n = omega arith in
+    let h′ : v < 2 ^ (8 + 8 * n) = subst (λ (k : ℕ). v < 2 ^ k) e h in
+    ap (λ (k : ℕ). field o (first o 8 k v ∷ bytesOf o n 0 (rest o 8 k v)) 0 (8 * suc n)) (add-zero (8 * n))
+    ∙ field-cons o (first o 8 (8 * n) v) (bytesOf o n 0 (rest o 8 (8 * n) v)) n (first-lt o 8 (8 * n) h′)
+    ∙ ap (join o 8 (8 * n) (first o 8 (8 * n) v)) (field-bytes o n (rest-lt o 8 (8 * n) h′))
+    ∙ join-parts o 8 (8 * n) v

@@ -1,5 +1,5 @@
 mod PartLaws
-mod BytesLaws
+pub mod BytesLaws
 mod EightBytesLaws
 mod StoredLaws
 pub mod BelongsLaws

@@ -13,10 +13,9 @@ use Rattle.bits.specs.Word.{rest}
 use Rattle.bits.proofs.JoinLaws.{join-lt, none-join, rest-lt}
 use Rattle.bits.proofs.FieldLaws.{field-lt}
 use Rattle.packing.specs.declared.State.{State}
-use Rattle.packing.specs.Packing.{bitsWritten, Belongs, gathered, bytesOf, put, putOut, putBytes, putBytesOut, story}
+use Rattle.packing.specs.Packing.{bitsWritten, gathered, bytesOf, put, putOut, putBytes, putBytesOut}
 use Rattle.packing.proofs.BytesLaws.{bytes-field}
-use Rattle.packing.proofs.PutLaws.{put-length, put-written, put-few, put-small, put-is, put-out-is, put-belongs}
-use Rattle.packing.proofs.StoryLaws.{put-story}
+use Rattle.packing.proofs.PutLaws.{put-length, put-written, put-few, put-small, put-is, put-out-is}
 use Rattle.packing.proofs.StretchLaws.{Stretch, stretch-none, stretch-byte, stretch-join}
 
 module _ (o : Order) where
@@ -59,16 +58,6 @@ module _ (o : Order) (bs : List ℕ) (bytes : (i : ℕ) → getD bs i 0 < 2 ^ 8)
     -- a stretch of all bytes is what putting the bytes leaves
     pub stretch-all : (s t : List ℕ) (d : State) → Stretch o bs 0 (length bs) s c t d → (d ≡ putBytes o c bs) × (t ≡ putBytesOut o s c bs)
     stretch-all s t d g = let all = last-bytes (length bs) 0 (zero-add (length bs)) s c small few in (g .state ∙ sym (all .state), g .memory ∙ sym (all .memory))
-
-  pub bytes-belongs : (len : ℕ) (c : State) → Belongs len c → bitsWritten c + 8 * length bs ≤ 8 * len → Belongs len (putBytes o c bs)
-  bytes-belongs len c h room =
-      subst (Belongs len) (sym (bytes-put c (h .small) (h .few))) (put-belongs o len c h (8 * length bs) room (field-lt o bs 0 (8 * length bs)))
-
-  -- the bytes' field stands behind the story
-  pub bytes-story : (s : List ℕ) (c : State) → Belongs (length s) c → bitsWritten c + 8 * length bs ≤ 8 * length s
-      → story o (putBytesOut o s c bs) (putBytes o c bs) ≡ join o (bitsWritten c) (8 * length bs) (story o s c) (field o bs 0 (8 * length bs))
-  bytes-story s c h room =
-      ap₂ (story o) (bytes-put-out c (h .small) (h .few) s) (bytes-put c (h .small) (h .few)) ∙ put-story o s c h (8 * length bs) room (field-lt o bs 0 (8 * length bs))
 
   -- where no bits are held, the bytes themselves are stored
   module _ (c : State) (aligned : c .held ≡ 0) (none : c .number ≡ 0) where

@@ -4,7 +4,7 @@ use Prim.Native.Nat.{ℕ, _+_, _*_, _/_, _%_, _^_, _<_, _≤_}
 use native.Mathlib.Nat.{add-zero}
 use native.Mathlib.Omega.{arith}
 use mathlib.Core.List.{List}
-use lib.ListN.{getD, length}
+use lib.ListN.{length}
 use lib.Seq.{sets, length-sets}
 use lib.Pow.{pow-pos}
 use Rattle.bits.specs.declared.Order.{Order}
@@ -16,7 +16,6 @@ use Rattle.packing.specs.declared.State.{State}
 use Rattle.packing.specs.Packing.{bitsWritten, Belongs, gathered, full, over, bytesOf, put, putOut}
 use Rattle.packing.proofs.PartLaws.{rest-of-longer, rest-twice}
 use Rattle.packing.proofs.BytesLaws.{length-bytes, bytes-append}
-use Rattle.packing.proofs.StoredLaws.{getD-sets-before, getD-sets-after}
 
 module _ (o : Order) (c : State) (n v : ℕ) where
   pub put-length : (s : List ℕ) → length (putOut o s c n v) ≡ length s
@@ -30,17 +29,6 @@ module _ (o : Order) (c : State) (n v : ℕ) where
   pub put-few : put o c n v .held ≤ 7
   unfolding put
   put-few = omega arith
-
-  -- the bytes that were full stay, and so do those from the byte of the next bit on
-  pub put-kept-before : (s : List ℕ) (i : ℕ) → i < c .written → getD (putOut o s c n v) i 0 ≡ getD s i 0
-  unfolding putOut
-  put-kept-before s i l = getD-sets-before (bytesOf o (full c n) (over c n) (gathered o c n v)) s (c .written) i l
-
-  pub put-kept-after : (s : List ℕ) (i : ℕ) → (bitsWritten c + n) / 8 ≤ i → getD (putOut o s c n v) i 0 ≡ getD s i 0
-  unfolding putOut
-  put-kept-after s i l =
-      let b : List ℕ = bytesOf o (full c n) (over c n) (gathered o c n v) in
-      getD-sets-after b s (c .written) i (omega (arith, length-bytes o (full c n) (over c n) (gathered o c n v)))
 
   -- where the held bits and the new ones make f bytes and r bits
   module _ (f r : ℕ) (e : c .held + n ≡ 8 * f + r) (l : r ≤ 7) where

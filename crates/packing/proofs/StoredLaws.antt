@@ -14,18 +14,12 @@ use Rattle.packing.specs.Packing.{bytesOf}
 use Rattle.packing.proofs.PartLaws.{first-twice}
 use Rattle.packing.proofs.BytesLaws.{byte-more}
 
--- what stands before a run of stores and behind it stays
+-- what stands before a run of stores stays
 pub getD-sets-before : (bs s : List ℕ) (at i : ℕ) → i < at → getD (sets s at bs) i 0 ≡ getD s i 0
 getD-sets-before [] s at i h = refl
 getD-sets-before (b ∷ bs) s at i h =
     let h′ : i < suc at = omega arith in
     getD-sets-before bs (set s at b) (suc at) i h′ ∙ getD-set-other s at i b 0 (λ e. omega arith)
-
-pub getD-sets-after : (bs s : List ℕ) (at i : ℕ) → at + length bs ≤ i → getD (sets s at bs) i 0 ≡ getD s i 0
-getD-sets-after [] s at i h = refl
-getD-sets-after (b ∷ bs) s at i h =
-    let h′ : suc at + length bs ≤ i = omega arith in
-    getD-sets-after bs (set s at b) (suc at) i h′ ∙ getD-set-other s at i b 0 (λ e. omega arith)
 
 -- the field of stored bytes is what was stored
 pub field-stored : (o : Order) (n r at : ℕ) (s : List ℕ) {v : ℕ} → at + n ≤ length s → v < 2 ^ (8 * n + r) → field o (sets s at (bytesOf o n r v)) (8 * at) (8 * n) ≡ first o (8 * n) r v

@@ -54,9 +54,13 @@ put o c n v =
       number = rest o (8 * full c n) (over c n) (gathered o c n v);
     }
 
+-- the bytes that n bits v make full
+abbrev pub filled : Order → State → ℕ → ℕ → List ℕ
+filled o c n v = bytesOf o (full c n) (over c n) (gathered o c n v)
+
 -- the output after n bits v: the bytes that are full now stand behind those that were full before, the others are untouched
 unfoldable pub putOut : Order → List ℕ → State → ℕ → ℕ → List ℕ
-putOut o s c n v = sets s (c .written) (bytesOf o (full c n) (over c n) (gathered o c n v))
+putOut o s c n v = sets s (c .written) (filled o c n v)
 
 -- the writer after bytes: eight bits each
 unfoldable pub putBytes : Order → State → List ℕ → State

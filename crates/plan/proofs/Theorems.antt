@@ -19,11 +19,12 @@ use Rattle.reader.proofs.CursorLaws.{own-done, gone-place, gone-own}
 use Rattle.layout.specs.Layout.{Item, item, areLayout, bitsOf}
 use Rattle.layout.specs.Plan.{compile}
 use Rattle.layout.proofs.LayoutLaws.{layout-of}
+use Rattle.bits.proofs.StoreLaws.{front-drop, front-at}
 use Rattle.bits.proofs.TestLaws.{by-test}
 use Rattle.plan.specs.Run.{patternOf, valuesOf, runRefusal, runOf, runOut}
 use Rattle.plan.specs.FieldReads.{readFields}
 use Rattle.plan.proofs.RunLaws.{granted, run-refused}
-use Rattle.plan.proofs.ValueLaws.{length-values, front-drop, front-at, value-at}
+use Rattle.plan.proofs.ValueLaws.{length-values, value-at}
 use Rattle.plan.proofs.FieldReadLaws.{read-all, read-few}
 use Rattle.plan.proofs.CompiledLaws.{same-fields, compiled-refusal, compiled-done, compiled-ran}
 

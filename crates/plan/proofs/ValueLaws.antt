@@ -1,33 +1,21 @@
--- Laws of the values of fields, and of a list that values were put at the front of.
+-- Laws of the values of fields, and of values put at the front of a list.
 use Prim.Native.Nat.{ℕ, zero, suc, _+_, _^_, _<_, _≤_}
 use mathlib.Core.Path.{_≡_, refl, ap, ap₂, _∙_}
-use mathlib.Core.List.{List, [], _∷_, _++_}
-use native.Mathlib.Nat.{zero-add, add-zero, add-assoc}
+use mathlib.Core.List.{List, [], _∷_}
+use native.Mathlib.Nat.{add-zero, add-assoc}
 use native.Mathlib.Omega.{arith}
-use lib.ListN.{length, take, drop, getD, List·getD-append}
+use lib.ListN.{length, take, getD}
 use lib.Pow.{pow-mono}
-use lib.Seq.{sets, sets-eq, take-append-seam, drop-append-seam}
+use lib.Seq.{sets}
 use Rattle.bits.specs.declared.Order.{Order}
 use Rattle.bits.specs.Field.{field}
 use Rattle.bits.specs.Signed.{signed}
 use Rattle.sign.proofs.SignedLaws.{signed-fits, signed-pattern}
 use Rattle.layout.specs.Layout.{Item, item, bitsOf}
+use Rattle.bits.proofs.StoreLaws.{front-take}
 use Rattle.plan.specs.Run.{patternOf, valuesOf}
 
--- ---- at the front
-
-module _ (xs l : List ℕ) (h : length xs ≤ length l) where
-  pub front : sets l 0 xs ≡ xs ++ drop (length xs) l
-  front = sets-eq xs l 0 (omega arith) ∙ ap (λ (n : ℕ). xs ++ drop n l) (zero-add (length xs))
-
-  pub front-take : take (length xs) (sets l 0 xs) ≡ xs
-  front-take = ap (take (length xs)) front ∙ take-append-seam xs _
-
-  pub front-drop : drop (length xs) (sets l 0 xs) ≡ drop (length xs) l
-  front-drop = ap (drop (length xs)) front ∙ drop-append-seam xs _
-
-  pub front-at : (i : ℕ) → i < length xs → getD (sets l 0 xs) i 0 ≡ getD xs i 0
-  front-at i k = ap (λ (r : List ℕ). getD r i 0) front ∙ List·getD-append xs _ 0 i k
+-- ---- values put at the front
 
 -- values that were put at the front of a list, put at another's
 pub front-put : (l zeros xs : List ℕ) {v : List ℕ} {n : ℕ} → v ≡ sets zeros 0 xs → n ≡ length xs → length xs ≤ length zeros → sets l 0 (take n v) ≡ sets l 0 xs

@@ -21,9 +21,9 @@ fn round(little: bool, seed: u64) -> bool {
     let filled = fill(&mut src, seed);
     let mut layout = [0u8; 128];
     let made = make(&mut layout, filled);
-    let lent = script_words::inner::within(&src, (made / 512 % 301) as usize);
-    let fields = (made / 65536 % 65) as usize;
-    agrees(little, &src[..lent], &layout, fields, next(made))
+    let lent = (made / 512 % 301) as usize;
+    let used = 2 * (made / 65536 % 65) as usize;
+    agrees(order_of(little), &src[..lent], &layout[..used], next(made))
 }
 
 // One more, if it is so.
@@ -78,20 +78,17 @@ fn drawn(x: u64, i: usize) -> u8 {
     (x / 65536 % 65) as u8
 }
 
-// Whether a run of the first fields of a layout agrees with reading them.
-fn agrees(little: bool, src: &[u8], layout: &[u8], fields: usize, seed: u64) -> bool {
-    let n = script_words::inner::within(layout, 2 * (fields % 65));
-    part_agrees(order_of(little), src, &layout[..n], seed)
-}
-
 // Whether a run agrees with reading field by field, from a place behind some bits.
-fn part_agrees(order: Order, src: &[u8], layout: &[u8], seed: u64) -> bool {
+fn agrees(order: Order, src: &[u8], layout: &[u8], seed: u64) -> bool {
     let mut plan = [0u8; 256];
     let compiled = layout::compile(layout, &mut plan);
     if compiled.refusal != 0 {
         return false;
     }
-    let length = script_words::inner::within(&plan, compiled.length);
+    let length = compiled.length;
+    if 256 < length {
+        return false;
+    }
     let fresh = Cursor::new(src);
     let start = fresh.cursor;
     let read = start.read_bits(order, src, (seed / 1024 % 57) as u32);

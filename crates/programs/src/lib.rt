@@ -1,2 +1,2 @@
-// The two programs: standard input to standard output. What they write is made by the library's list_text and pack_text.
+// What the programs share: reading all of standard input and writing to standard output.
 pub mod inner;

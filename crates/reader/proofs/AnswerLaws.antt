@@ -2,7 +2,7 @@
 use Prim.Native.Nat.{ℕ, zero, suc, _-_, _*_, _%_, _^_, _<_, _≤_}
 use mathlib.Core.Path.{_≡_, refl, sym, ap, _∙_, subst}
 use mathlib.Core.Bool.{Bool, true, false}
-use mathlib.Core.List.{List}
+use mathlib.Core.List.{List, []}
 use native.Mathlib.Omega.{arith}
 use lib.ListN.{length, take, drop, length-drop}
 use lib.Seq.{take-all}
@@ -17,13 +17,15 @@ use Rattle.bits.specs.Refusals.{done}
 use Rattle.bits.proofs.RefusalLaws.{passed, at-most}
 use Rattle.bits.proofs.FieldLaws.{field-lt}
 use Rattle.bits.specs.Signed.{signed}
+use Rattle.counts.proofs.BytesLaws.{bytes-none as none-counts}
+use Rattle.octets.specs.Octets.{firsts, octets}
 use Rattle.sign.proofs.SignedLaws.{signed-low, narrowed}
 use Rattle.floats.proofs.FloatLaws.{cond-either}
 use Rattle.reader.specs.declared.Cursor.{Cursor}
 use Rattle.reader.specs.declared.ReadU64.{ReadU64}
-use Rattle.reader.specs.Cursor.{bitsLeft, bytesLeft, aheadIn, Own}
-use Rattle.reader.proofs.CursorLaws.{refusal-own}
-use Rattle.reader.specs.Answers.{readRefusal, readOf, bytesRefusal, manualRefusal}
+use Rattle.reader.specs.Cursor.{countsIn, cursorAt, bitsLeft, bytesLeft, aheadIn, Own}
+use Rattle.reader.proofs.CursorLaws.{refusal-own, own-at}
+use Rattle.reader.specs.Answers.{readRefusal, readOf, bytesRefusal, bytesOf, bytesOut, manualRefusal}
 
 -- ---- what a call that is not refused may rely on
 
@@ -91,6 +93,19 @@ pub signed-cast :
 signed-cast o s c w {r} e f g =
     let (defined, same) = narrowed w (r .value) (answered-lt o s c (bits w) e) f g in
     (defined, same ∙ ap (λ (x : ReadU64). signed (bits w) (x .value)) e)
+
+-- ---- no bytes, refused or not
+
+module _ (o : Order) (s : List ℕ) (c : Cursor) where
+  pub bytes-none : (bytesOf o s c 0) .cursor ≡ c
+  unfolding bytesOf
+  bytes-none =
+      cond-either (λ (d : Cursor). d ≡ c) (eqb (bytesRefusal o s c 0) done)
+      (λ t. ap (cursorAt o s c) (none-counts (length s) (countsIn c)) ∙ own-at o s c (bytes-granted o s c 0 (eqb-true _ _ t) .0)) (λ t. refl)
+
+  pub none-out : bytesOut o s c [] ≡ []
+  unfolding bytesOut octets firsts
+  none-out = cond-either (λ (out : List ℕ). out ≡ []) (eqb (bytesRefusal o s c 0) done) (λ t. refl) (λ t. refl)
 
 -- ---- parts and places
 

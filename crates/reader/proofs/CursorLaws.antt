@@ -1,6 +1,6 @@
 -- Laws of cursors: what a refusal tells, what is left up to the stop, and that a cursor gone on still belongs.
 use Prim.Native.Nat.{ℕ, _+_, _-_, _*_, _≤_}
-use mathlib.Core.Path.{_≡_, refl}
+use mathlib.Core.Path.{_≡_, refl, sym}
 use mathlib.Core.List.{List}
 use native.Mathlib.Omega.{arith}
 use lib.ListN.{length}
@@ -94,6 +94,11 @@ module _ (o : Order) (s : List ℕ) (c : Cursor) where
   gone-stop p = refl
 
   module _ (h : Own o s c) where
+    -- a cursor that belongs is the one with its counts
+    pub own-at : cursorAt o s c (countsIn c) ≡ c
+    unfolding cursorAt
+    own-at = λ i. record { offset = c .offset; lookahead = c .lookahead; register = sym (h .holds) i }
+
     -- a cursor gone on to counts of the slice belongs, if they are not past the stop
     pub at-own : {k : Counts} → C.Within (length s) k → C.place k ≤ stop s c → Own o s (cursorAt o s c k)
     unfolding cursorAt

@@ -11,7 +11,7 @@ use Rattle.bits.proofs.RefusalLaws.{if-done}
 use Rattle.reader.specs.declared.Cursor.{Cursor}
 use Rattle.reader.specs.declared.Partial.{Partial}
 use Rattle.reader.specs.Cursor.{place, cursorRefusal}
-use Rattle.reader.specs.Answers.{remainderOf, partialOf}
+use Rattle.reader.specs.Answers.{startOf, remainderOf, partialOf}
 use Rattle.reader.proofs.CursorLaws.{refusal-own}
 
 -- the first whole byte not before the place of a cursor
@@ -19,13 +19,16 @@ abbrev wholeFrom : Cursor → ℕ
 wholeFrom c = (place c + 7) / 8
 
 pub remainder-where : (o : Order) (s : List ℕ) (c : Cursor) → cursorRefusal o s c ≡ done →
-    (remainderOf o s c ≡ drop (wholeFrom c) s)
+    (startOf o s c ≡ wholeFrom c)
+    × (remainderOf o s c ≡ drop (wholeFrom c) s)
     × (partialOf o s c ≡ record { refusal = done; «partial_bits» = 8 * wholeFrom c - place c; «partial_byte» = field o s (place c) (8 * wholeFrom c - place c) })
-unfolding remainderOf partialOf
+unfolding startOf remainderOf partialOf
 remainder-where o s c own =
     let h = refusal-own own .fits .within in
-    let start : c .offset - c .lookahead / 8 ≡ wholeFrom c = omega (arith, h .behind) in
+    let e : c .offset - c .lookahead / 8 ≡ wholeFrom c = omega (arith, h .behind) in
+    let start : startOf o s c ≡ wholeFrom c = sym (if-done refl _ _ own) ∙ e in
     let bits : c .lookahead % 8 ≡ 8 * wholeFrom c - place c = omega (arith, h .behind) in (
+      start,
       sym (if-done refl _ _ own) ∙ ap (λ (n : ℕ). drop n s) start,
       sym (if-done refl _ _ own) ∙ ap (λ (n : ℕ). partial n (field o s (place c) n)) bits,
     )

@@ -143,17 +143,21 @@ peekOf o s c n = peeked (manualRefusal o s c n) (ifDone (manualRefusal o s c n) 
 unfoldable pub consumeOf : Order → List ℕ → Cursor → ℕ → Moved
 consumeOf o s c n = moved (manualRefusal o s c n) (ifDone (manualRefusal o s c n) (cursorAt o s c (afterTake n (countsIn c))) c)
 
-unfoldable pub aheadOf : Order → List ℕ → Cursor → Ahead
-aheadOf o s c = ahead (cursorRefusal o s c) (ifDone (cursorRefusal o s c) (aheadIn s c) 0)
-
 unfoldable pub refillOf : Order → List ℕ → Cursor → Moved
 refillOf o s c = moved (cursorRefusal o s c) (ifDone (cursorRefusal o s c) (cursorAt o s c (afterRefill (length s) (countsIn c))) c)
 
+unfoldable pub aheadOf : Order → List ℕ → Cursor → Ahead
+aheadOf o s c = ahead (cursorRefusal o s c) (ifDone (cursorRefusal o s c) (aheadIn s c) 0)
+
 -- ---- remainder
 
--- the slice from the first whole unread byte on; empty with a refusal
+-- the first whole unread byte: where the remainder starts; 0 with a refusal
+unfoldable pub startOf : Order → List ℕ → Cursor → ℕ
+startOf o s c = ifDone (cursorRefusal o s c) (c .offset - c .lookahead / 8) 0
+
+-- the slice from that byte on; empty with a refusal
 unfoldable pub remainderOf : Order → List ℕ → Cursor → List ℕ
-remainderOf o s c = ifDone (cursorRefusal o s c) (drop (c .offset - c .lookahead / 8) s) []
+remainderOf o s c = ifDone (cursorRefusal o s c) (drop (startOf o s c) s) []
 
 -- the bits before that byte: how many, and their value
 unfoldable pub partialOf : Order → List ℕ → Cursor → Partial

@@ -1,16 +1,17 @@
 // A cursor over a lent slice: bits, fields and bytes read in either order. Each method takes the slice too, tests that the cursor
-// belongs to it, and hands the cursor that goes on back by value. The methods stand in the order of the Rust's BitReader. The examples are
-// those of the program example_calls: `start` is a fresh cursor, `full` a refilled one, `behind` one behind three bits.
+// belongs to it, and hands the cursor that goes on back by value. Behind `new` and `from_parts` the methods stand in the order of the
+// Rust's BitReader; the remainder, which the Rust has outside it, is last. The examples are those of the program example_calls: `start`
+// is a fresh cursor, `full` a refilled one, `behind` one behind three bits.
 use bits::Order;
 use bits::refusals;
 use floats::Double;
 use floats::Single;
 ghost use mathlib.Core.Path.{_≡_};
-ghost use Prim.Native.Nat.{_%_};
+ghost use Prim.Native.Nat.{_+_, _%_};
 ghost use lib.Dec.{eqb, leb};
 ghost use lib.ListN.{length};
 ghost use Rattle.reader.specs.Cursor.{place, bitsLeft, bytesLeft, unfetched};
-ghost use Rattle.reader.specs.Answers.{newOf, readOf, asBool, asU8, asI8, asU16, asI16, asU32, asI32, asF32, asSigned, asF64, countedOf, testedOf, bytesOf, bytesOut, peekOf, consumeOf, aheadOf, refillOf, remainderOf, partialOf};
+ghost use Rattle.reader.specs.Answers.{newOf, readOf, asBool, asU8, asI8, asU16, asI16, asU32, asI32, asF32, asSigned, asF64, countedOf, testedOf, bytesOf, bytesOut, peekOf, consumeOf, refillOf, aheadOf, startOf, remainderOf, partialOf};
 
 pub mod inner;
 
@@ -462,6 +463,25 @@ impl Cursor {
         }
     }
 
+    // Whether no bit is left.
+    //     let none = start.is_empty(Order::Big, b"");
+    //     expect(b"is_empty", none.value);
+    pub fn is_empty(self, order: Order, src: &[u8]) -> Tested
+        ensures { λ r. ⌜ r ≡ testedOf order (now (src .entry)) self (eqb (bitsLeft (now (src .entry)) self) 0) ⌝ }
+    {
+        let refusal = inner::refusal(order, src, self);
+        if refusal != refusals::DONE {
+            return Tested {
+                refusal: refusal,
+                value: false,
+            };
+        }
+        Tested {
+            refusal: refusals::DONE,
+            value: inner::bits_left(src, self) == 0,
+        }
+    }
+
     // The first bits of the lookahead, which stay. Refusals 1, 2 and 10.
     //     let seen = full.peek(Order::Big, b"\xa5\x01", 4);
     //     expect(b"peek", seen.value == 10);
@@ -503,25 +523,6 @@ impl Cursor {
         }
     }
 
-    // The bits of lookahead.
-    //     let ahead = full.lookahead_bits(Order::Big, b"\xa5\x01");
-    //     expect(b"lookahead_bits", ahead.value == 16);
-    pub fn lookahead_bits(self, order: Order, src: &[u8]) -> Ahead
-        ensures { λ r. ⌜ r ≡ aheadOf order (now (src .entry)) self ⌝ }
-    {
-        let refusal = inner::refusal(order, src, self);
-        if refusal != refusals::DONE {
-            return Ahead {
-                refusal: refusal,
-                value: 0,
-            };
-        }
-        Ahead {
-            refusal: refusals::DONE,
-            value: inner::ahead(src, self),
-        }
-    }
-
     // The cursor with as many more whole bytes in its lookahead as the slice and 63 bits allow.
     //     let moved = start.refill_lookahead(Order::Big, b"\xa5\x01");
     //     expect(b"refill_lookahead", moved.refusal == 0);
@@ -544,22 +545,22 @@ impl Cursor {
         }
     }
 
-    // Whether no bit is left.
-    //     let none = start.is_empty(Order::Big, b"");
-    //     expect(b"is_empty", none.value);
-    pub fn is_empty(self, order: Order, src: &[u8]) -> Tested
-        ensures { λ r. ⌜ r ≡ testedOf order (now (src .entry)) self (eqb (bitsLeft (now (src .entry)) self) 0) ⌝ }
+    // The bits of lookahead.
+    //     let ahead = full.lookahead_bits(Order::Big, b"\xa5\x01");
+    //     expect(b"lookahead_bits", ahead.value == 16);
+    pub fn lookahead_bits(self, order: Order, src: &[u8]) -> Ahead
+        ensures { λ r. ⌜ r ≡ aheadOf order (now (src .entry)) self ⌝ }
     {
         let refusal = inner::refusal(order, src, self);
         if refusal != refusals::DONE {
-            return Tested {
+            return Ahead {
                 refusal: refusal,
-                value: false,
+                value: 0,
             };
         }
-        Tested {
+        Ahead {
             refusal: refusals::DONE,
-            value: inner::bits_left(src, self) == 0,
+            value: inner::ahead(src, self),
         }
     }
 
@@ -582,11 +583,12 @@ impl Cursor {
         }
     }
 
-    // The part of the slice from the first whole unread byte on; empty on refusal 1 or 2, which `partial` tells.
+    // The part of the slice from the first whole unread byte on; empty, at the slice's start, on refusal 1 or 2, which `partial` tells.
     //     let rest = behind.remainder(Order::Big, b"\x5a\xff");
     //     expect(b"remainder", rest.len() == 1);
     pub fn remainder(self, order: Order, src: &[u8]) -> &[u8]
-        ensures { λ r. ⌜ now r ≡ remainderOf order (now (src .entry)) self ⌝ }
+        ensures bytes { λ r. ⌜ now r ≡ remainderOf order (now (src .entry)) self ⌝ }
+        ensures memory { λ r. ⌜ (r .ptr .0 ≡ src .entry .ptr .0) × (r .ptr .1 ≡ src .entry .ptr .1 + startOf order (now (src .entry)) self) ⌝ }
     {
         let refusal = inner::refusal(order, src, self);
         if refusal != refusals::DONE {

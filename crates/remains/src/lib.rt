@@ -2,7 +2,8 @@
 use bits::Order;
 use reader::Cursor;
 ghost use mathlib.Core.Path.{_≡_};
-ghost use Rattle.reader.specs.Answers.{remainderOf, partialOf};
+ghost use Prim.Native.Nat.{_+_};
+ghost use Rattle.reader.specs.Answers.{startOf, remainderOf, partialOf};
 
 // The bits before the first whole unread byte, as a number and how many, and the slice from that byte on. It has no refusal number:
 // `partial` tells it, and all is 0 or empty where there is one.
@@ -18,7 +19,9 @@ pub struct Remainder<'a> {
 pub fn remainder_record<'a>(cursor: Cursor, order: Order, src: &'a [u8]) -> Remainder<'a>
     ensures { λ r. ⌜ (r .«partial_byte» ≡ (partialOf order (now (src .entry)) cursor) .«partial_byte»)
         × (r .«partial_bits» ≡ (partialOf order (now (src .entry)) cursor) .«partial_bits»)
-        × (now (r .«remaining_bytes») ≡ remainderOf order (now (src .entry)) cursor) ⌝ }
+        × (now (r .«remaining_bytes») ≡ remainderOf order (now (src .entry)) cursor)
+        × (r .«remaining_bytes» .ptr .0 ≡ src .entry .ptr .0)
+        × (r .«remaining_bytes» .ptr .1 ≡ src .entry .ptr .1 + startOf order (now (src .entry)) cursor) ⌝ }
 {
     let partial = cursor.partial(order, src);
     let rest = cursor.remainder(order, src);

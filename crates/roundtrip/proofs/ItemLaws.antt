@@ -94,7 +94,7 @@ byte-is o s p bs h e i l =
     ∙ ap (λ (k : ℕ). field o bs k 8) (zero-add a) ∙ field-byte o bs i (h i)
 
 -- a number within the range of its width comes back from its bits
-in-range : (w : ℕ) (z : ℤ) → InRange w z → S.signed w (pattern w z) ≡ z
+pub in-range : (w : ℕ) (z : ℤ) → InRange w z → S.signed w (pattern w z) ≡ z
 unfolding InRange S.signed
 in-range zero z h = sym h
 in-range (suc j) z h = signed-pattern j z h

@@ -1,4 +1,4 @@
-mod ItemLaws
+pub mod ItemLaws
 mod WayOut
 mod WayBack
 pub mod MixedTrip

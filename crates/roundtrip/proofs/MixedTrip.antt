@@ -7,22 +7,21 @@ use lib.Seq.{length-take-le, getD-take}
 use native.Mathlib.Nat.{zero-add}
 use native.Mathlib.Omega.{arith}
 use Rattle.bits.specs.declared.Order.{Order}
-use Rattle.bits.specs.Refusals.{longest, done}
+use Rattle.bits.specs.Refusals.{longest}
 use Rattle.bits.specs.Field.{field, join}
 use Rattle.bits.proofs.JoinLaws.{none-join}
 use Rattle.bits.proofs.FieldLaws.{field-same, bit-same}
 use Rattle.packing.specs.Packing.{Belongs, story}
-use Rattle.packing.proofs.BelongsLaws.{belongs-refusal}
-use Rattle.packing.proofs.StoryLaws.{story-aligned}
 use Rattle.reader.proofs.ReadLaws.{fresh-done, fresh-belongs, fresh-place, fresh-left}
 use Rattle.reader.specs.Cursor.{place}
 use Rattle.reader.specs.Answers as R
 use Rattle.writer.specs.declared.Writer.{Writer}
-use Rattle.writer.specs.Writer.{stateIn, bitsWritten, writerRefusal, padding}
+use Rattle.writer.specs.Writer.{stateIn, bitsWritten, padding}
 use Rattle.writer.specs.Answers as W
 use Rattle.writer.specs.Answers.{flushOf, flushOut}
-use Rattle.writer.proofs.WriteLaws.{new-done, new-belongs, new-written, new-story, Stored, flush-stored, flush-whole}
-use Rattle.roundtrip.specs.Mixed.{Written, flushed, Item, Fit, size, writeAll, sent, carried, back, MixedRoundTrip}
+use Rattle.writer.proofs.WriteLaws.{new-done, new-belongs, new-written, new-story, Stored}
+use Rattle.roundtrip.specs.Mixed.{Written, flushed, Item, Fit, size, writeAll, carried, back, MixedRoundTrip}
+use Rattle.writer.proofs.FlushLaws.{flush-of, flushed-whole, flushed-holds}
 use Rattle.roundtrip.proofs.WayOut.{pack, Went, all-written}
 use Rattle.roundtrip.proofs.WayBack.{Came, all-read}
 
@@ -30,9 +29,7 @@ use Rattle.roundtrip.proofs.WayBack.{Came, all-read}
 
 -- they are bytes of the output
 flush-within : (o : Order) (s : List ℕ) (w : Writer) → Belongs (length s) (stateIn w) → flushOf o (length s) w .writer .written ≤ length (flushOut o s w)
-flush-within o s w h =
-    let f : Stored o s w (padding w) 0 (flushOut o s w) (flushOf o (length s) w) = flush-stored o s w (belongs-refusal (length s) (stateIn w) h) in
-    omega (arith, f .belongs .within, f .same-length)
+flush-within o s w h = let f = flush-of o s w h in omega (arith, f .belongs .within, f .same-length)
 
 -- after a flush, they are all that was written, and the padding
 record Alone (o : Order) (n pad x : ℕ) (b : List ℕ) : Type 0 where
@@ -43,22 +40,18 @@ record Alone (o : Order) (n pad x : ℕ) (b : List ℕ) : Type 0 where
 alone : (o : Order) (s : List ℕ) (w : Writer) → Belongs (length s) (stateIn w)
     → Alone o (bitsWritten w) (padding w) (story o s (stateIn w)) (take (flushOf o (length s) w .writer .written) (flushOut o s w))
 alone o s w h =
-    let z : writerRefusal (length s) w ≡ done = belongs-refusal (length s) (stateIn w) h in
     let m : Writer = flushOf o (length s) w .writer in
     let t : List ℕ = flushOut o s w in
     let b : List ℕ = take (m .written) t in
-    let f : Stored o s w (padding w) 0 t (flushOf o (length s) w) = flush-stored o s w z in
-    let e : (m .held ≡ 0) × (m .number ≡ 0) = flush-whole o s w z in
-    let all : 8 * m .written ≡ bitsWritten w + padding w = omega (arith, f .written, e .0) in
+    let f : Stored o s w (padding w) 0 t (flushOf o (length s) w) = flush-of o s w h in
+    let all : 8 * m .written ≡ bitsWritten w + padding w = flushed-whole o s w h in
     let l : length b ≡ m .written = length-take-le (m .written) t (flush-within o s w h) in
     record {
       short = omega (arith, f .same-length, f .belongs .short);
       whole = omega arith;
       holds =
-          ap (field o b 0) (sym all)
-          ∙ field-same o b t 0 0 (8 * m .written) (λ k lt. bit-same o b t (0 + k) (getD-take (m .written) t ((0 + k) / 8) 0 (omega arith)))
-          ∙ sym (story-aligned o t (stateIn m) (e .0) (e .1))
-          ∙ f .stands;
+          field-same o b t 0 0 (bitsWritten w + padding w) (λ k lt. bit-same o b t (0 + k) (getD-take (m .written) t ((0 + k) / 8) 0 (omega arith)))
+          ∙ flushed-holds o s w h;
     }
 
 -- ---- the theorem
@@ -74,10 +67,6 @@ module _ (o : Order) (s : List ℕ) (es : List Item) (short : length s ≤ longe
   -- the writer still belongs to the output
   belongs : Belongs (length (unflushed o s es .out)) (stateIn (unflushed o s es .writer))
   belongs = subst (λ (k : ℕ). Belongs k (stateIn (unflushed o s es .writer))) (sym (went .same-length)) (went .belongs)
-
-  pub sent-within : sent o s es .writer .written ≤ length (sent o s es .out)
-  unfolding flushed
-  sent-within = flush-within o (unflushed o s es .out) (unflushed o s es .writer) belongs
 
 pub mixed-round-trip : MixedRoundTrip
 unfolding flushed
@@ -99,7 +88,7 @@ mixed-round-trip o s es short fit room =
     record {
       new-writer = new-done (length s) short;
       written =
-          ap₂ (λ (k : ℕ) (ks : List ℕ). k ∷ ks) (flush-stored o (q .out) (q .writer) (belongs-refusal (length (q .out)) (stateIn (q .writer)) h) .accepted) (g .accepted);
+          ap₂ (λ (k : ℕ) (ks : List ℕ). k ∷ ks) (flush-of o (q .out) (q .writer) h .accepted) (g .accepted);
       new-cursor = fresh-done b (a .short);
       read = came .accepted;
       values = came .values;

@@ -7,14 +7,18 @@ use script_words::inner::Line;
 use writer::Writer;
 ghost use Prim.Native.Nat.{_≤_};
 ghost use lib.ListN.{length};
+ghost use Rattle.io.specs.Counts.{Counts};
 
+mod others;
 pub mod program;
 mod reads;
 mod writes;
 
-// Whether the order is little endian, how many bytes of the source and of the output are in use, the cursor and the writer.
+// Whether the order is little endian, whether calls are made the other way, how many bytes of the source and of the output are in use,
+// the cursor and the writer.
 struct Machine {
     little: bool,
+    other: bool,
     len: usize,
     size: usize,
     cursor: Cursor,
@@ -38,6 +42,7 @@ struct Done {
 fn start() -> Machine {
     Machine {
         little: true,
+        other: false,
         len: 0,
         size: 0,
         cursor: Cursor::from_parts(0, 0, 0),
@@ -92,6 +97,12 @@ fn setup(l: Line, m: Machine, src: &mut [u8], out: &mut [u8], buf: &[u8]) -> Mac
         b'B' => {
             next.little = false;
         }
+        b'T' => {
+            next.other = true;
+        }
+        b'U' => {
+            next.other = false;
+        }
         b'S' => {
             next.len = words::copy(buf, l.count, src);
         }
@@ -130,9 +141,10 @@ fn on_cursor(l: Line, m: Machine, all: &[u8], buf: &mut [u8], line: &mut [u8]) -
     ensures { λ r. ⌜ r .length ≤ length (now (line .entry)) ⌝ }
 {
     let c = m.cursor;
-    let len = words::within(all, m.len);
+    let len = within(all, m.len);
     let order = order(m.little);
-    let r = reads::call(
+    let r = others::read(
+        m.other,
         l.letter,
         l.first,
         l.second,
@@ -156,10 +168,11 @@ fn on_writer(l: Line, m: Machine, all: &mut [u8], buf: &[u8], line: &mut [u8]) -
     ensures { λ r. ⌜ r .length ≤ length (now (line .entry)) ⌝ }
 {
     let w = m.writer;
-    let size = words::within(all, m.size);
-    let count = words::within(buf, l.count);
+    let size = within(all, m.size);
+    let count = within(buf, l.count);
     let order = order(m.little);
-    let r = writes::call(
+    let r = others::write(
+        m.other,
         l.letter,
         l.first,
         l.second,
@@ -176,6 +189,13 @@ fn on_writer(l: Line, m: Machine, all: &mut [u8], buf: &[u8], line: &mut [u8]) -
         machine: next,
         length: r.length,
     }
+}
+
+// n, or the number of bytes in `all` if it is less.
+fn within(all: &[u8], n: usize) -> usize
+    ensures { λ r. ⌜ Counts r (now (all .entry)) ⌝ }
+{
+    if all.len() < n { all.len() } else { n }
 }
 
 // The order that a machine goes by.

@@ -73,7 +73,8 @@ fn ended(lines: &mut [u8], used: usize, count: usize) -> usize
 }
 
 // Writes the first n bytes of some answers.
-fn write(lines: &[u8], n: usize) {
-    let count = words::within(lines, n);
-    let _done = io::write_all(1, &lines[..count]);
+fn write(lines: &[u8], n: usize)
+    requires { ⌜ n ≤ length (now lines) ⌝ }
+{
+    let _done = io::write_all(1, &lines[..n]);
 }

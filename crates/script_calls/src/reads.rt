@@ -71,7 +71,7 @@ fn answer(letter: u8, n: u64, c: Cursor, order: Order, src: &[u8]) -> ReadU64 {
 }
 
 // A read of a fixed width, its value as bits.
-fn fixed(k: u64, c: Cursor, order: Order, src: &[u8]) -> ReadU64 {
+pub fn fixed(k: u64, c: Cursor, order: Order, src: &[u8]) -> ReadU64 {
     match k {
         0 => {
             let r = c.read_bit(order, src);
@@ -211,7 +211,7 @@ fn remainder(c: Cursor, order: Order, src: &[u8], line: &mut [u8]) -> usize
 }
 
 // An answer with a value of 64 bits.
-fn plain(refusal: u32, value: u64, c: Cursor) -> ReadU64 {
+pub fn plain(refusal: u32, value: u64, c: Cursor) -> ReadU64 {
     ReadU64 {
         refusal: refusal,
         value: value,
@@ -228,7 +228,7 @@ fn extend(value: u64, width: u64, line: &mut [u8]) -> usize
 }
 
 // An answer's cursor, and its line.
-fn told_of(r: ReadU64, line: &mut [u8]) -> Read
+pub fn told_of(r: ReadU64, line: &mut [u8]) -> Read
     ensures { λ n. ⌜ n .length ≤ length (now (line .entry)) ⌝ }
 {
     let next = r.cursor;
@@ -239,7 +239,7 @@ fn told_of(r: ReadU64, line: &mut [u8]) -> Read
 }
 
 // `refusal value offset lookahead`.
-fn told(line: &mut [u8], refusal: u32, value: u64, c: Cursor) -> usize
+pub fn told(line: &mut [u8], refusal: u32, value: u64, c: Cursor) -> usize
     ensures { λ n. ⌜ n ≤ length (now (line .entry)) ⌝ }
 {
     words::put_four(

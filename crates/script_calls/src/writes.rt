@@ -63,7 +63,7 @@ fn answer(
 }
 
 // A write of a fixed width.
-fn fixed(k: u64, n: u64, w: Writer, order: Order, out: &mut [u8]) -> Wrote {
+pub fn fixed(k: u64, n: u64, w: Writer, order: Order, out: &mut [u8]) -> Wrote {
     match k {
         0 => w.write_bit(order, out, n == 1),
         1 => w.write_u8(order, out, (n % 0x100) as u8),
@@ -112,7 +112,7 @@ fn unaligned(w: Writer, out: &[u8], line: &mut [u8]) -> usize
 }
 
 // An answer's writer, and its line: `refusal written held`.
-fn told_of(r: Wrote, line: &mut [u8]) -> Written
+pub fn told_of(r: Wrote, line: &mut [u8]) -> Written
     ensures { λ n. ⌜ n .length ≤ length (now (line .entry)) ⌝ }
 {
     let w = r.writer;

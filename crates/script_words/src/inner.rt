@@ -261,21 +261,16 @@ pub fn repeat(out: &mut [u8], n: u64, b: u8) -> usize
     i
 }
 
-// n, or the number of bytes in `all` if it is less.
-pub fn within(all: &[u8], n: usize) -> usize
-    ensures { λ r. ⌜ Counts r (now (all .entry)) ⌝ }
-{
-    if all.len() < n { all.len() } else { n }
-}
-
 // Copies the first n bytes of `from` to the start of `into`, or as many as there are and there is room for; the answer is their count.
 pub fn copy(from: &[u8], n: usize, into: &mut [u8]) -> usize
     ensures { λ r. ⌜ r ≤ length (now (into .entry)) ⌝ }
 {
-    let most = within(from, n);
     let mut i = 0;
     while i < into.len() {
-        if most <= i {
+        if n <= i {
+            return i;
+        }
+        if from.len() <= i {
             return i;
         }
         into[i] = from[i];

@@ -19,12 +19,15 @@ use Rattle.reader.proofs.CursorLaws.{refusal-own, left-inside}
 use Rattle.writer.specs.declared.Writer.{Writer}
 use Rattle.writer.specs.Writer.{stateIn, writerWith, bitsWritten, padding}
 use Rattle.writer.specs.Answers.{flushOut}
+use Rattle.writer.proofs.WriteLaws.{Stored, put-stored}
 use Rattle.record.specs.declared.Record.{Record}
 use Rattle.record.specs.Record.{fits, recordBits}
+use Rattle.record.proofs.FitLaws.{fits-true}
 use Rattle.strip.specs.declared.Packed.{Packed}
 use Rattle.strip.specs.Bits.{bitsOf}
-use Rattle.strip.specs.Strip.{allNumbers, recordsIn, allFit, stripLength, countOf, recordsOf, tailGood}
-use Rattle.strip.specs.Answers.{packRefusal, packOf, packOut, readRefusal, stripRefusal, stripOf, stripOut, packedOut, listRefusal, listOf, listOut}
+use Rattle.strip.specs.Strip.{allNumbers, recordsIn, allFit, stripLength, stripBytes, countOf, recordsOf, tailGood}
+use Rattle.strip.specs.Answers.{packRefusal, packOf, packOut, readRefusal, stripRefusal, stripOf, packedOut, listRefusal, listOf, listOut}
+use Rattle.strip.proofs.BitsLaws.{bits-lt}
 
 -- an answer of two parts
 abbrev pub packed : ℕ → ℕ → Packed
@@ -60,6 +63,13 @@ list-passed s room z = let (short, enough) = passed _ z in (at-most _ _ _ short,
 
 -- ---- what a call that is done leaves
 
+-- a record's bits are stored
+pub pack-stored : (s : List ℕ) (w : Writer) (r : Record) → packRefusal (length s) w r ≡ done → Stored Big s w recordBits (bitsOf r) (packOut s w r) (packOf (length s) w r)
+unfolding packOf packOut
+pack-stored s w r z =
+    let (belongs, room, fit) = pack-passed (length s) w r z in
+    put-stored Big s w z (record { belongs = belongs; enough = room }) (bits-lt r (fits-true r fit)) refl refl
+
 pub pack-done : (s : List ℕ) (w : Writer) (r : Record) → packRefusal (length s) w r ≡ done
     → (packOf (length s) w r .writer ≡ writerWith (put Big (stateIn w) recordBits (bitsOf r))) × (packOut s w r ≡ putOut Big s (stateIn w) recordBits (bitsOf r))
 unfolding packOf packOut
@@ -69,7 +79,7 @@ pub flush-done : (s : List ℕ) (c : State) → Belongs (length s) c → flushOu
 unfolding flushOut
 flush-done s c h = rw (eq-eqb _ _ (belongs-refusal (length s) c h))
 
-pub strip-done : (ns : List ℕ) (n : ℕ) (s : List ℕ) → stripRefusal ns n (length s) ≡ done → (stripOf ns n (length s) .length ≡ stripLength n) × (packedOut ns n s ≡ stripOut (recordsIn n ns) s)
+pub strip-done : (ns : List ℕ) (n : ℕ) (s : List ℕ) → stripRefusal ns n (length s) ≡ done → (stripOf ns n (length s) .length ≡ stripLength n) × (packedOut ns n s ≡ sets s 0 (stripBytes (recordsIn n ns)))
 unfolding stripOf packedOut
 strip-done ns n s z = rw (eq-eqb _ _ z) (refl, refl)
 

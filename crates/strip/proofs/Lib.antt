@@ -2,8 +2,9 @@ mod BitsLaws
 pub mod FitLaws
 mod ListLaws
 mod AnswerLaws
+pub mod PackedLaws
 pub mod MidwayLaws
 mod UnderwayLaws
-mod PackedLaws
-mod StripLaws
+pub mod StripLaws
+mod CallLaws
 pub mod Theorems

@@ -9,7 +9,7 @@ use native.Mathlib.Omega.{arith}
 use lib.Dec.{ltb}
 use lib.IntN.{ℤ}
 use lib.ListN.{length, getD, take, drop, set, length-drop}
-use lib.Seq.{sets, sets-eq, take-at, take-suc, take-add, getD-drop, drop-drop}
+use lib.Seq.{sets, take-suc, take-add, getD-drop, drop-drop}
 use borrow.Author.Tests.{ltb-true, ltb-false, le-ltb}
 use Rattle.bits.specs.Signed.{signed, pattern}
 use Rattle.bits.proofs.TestLaws.{by-test}
@@ -72,12 +72,6 @@ whole-records (suc n) ns =
 pub six-stored : (l : List ℕ) (at a b c d e f : ℕ) → set (set (set (set (set (set l at a) (at + 1) b) (at + 2) c) (at + 3) d) (at + 4) e) (at + 5) f ≡ sets l at (a ∷ b ∷ c ∷ d ∷ e ∷ f ∷ [])
 six-stored l at a b c d e f = simp unary-clauses
 
--- k numbers stored at a list's front
-pub front-stored : (l ns : List ℕ) (k : ℕ) → length ns ≡ k → k ≤ length l → take k (sets l 0 ns) ≡ ns
-front-stored l ns k e h =
-    let h′ : 0 + length ns ≤ length l = omega arith in
-    ap (take k) (sets-eq ns l 0 h′) ∙ take-at ns (drop (0 + length ns) l) k e
-
 -- the numbers of the record at a place, and those of the others behind them
 pub next-stored : (s l : List ℕ) (p at n i : ℕ) → i < n
     → sets (sets l at (numbersOf (recordAt s p))) (at + 6) (allNumbers (recordsFrom s (p + recordBits) (n - (i + 1)))) ≡ sets l at (allNumbers (recordsFrom s p (n - i)))
@@ -103,12 +97,12 @@ records-back (r ∷ rs) h =
     rw (le-ltb _ _ l) (ap₂ (λ (z : ℤ) (t : List Record). withMagnitude r z ∷ t) m (records-back rs others))
 
 -- numbers name as many records as they are asked for, if they are there
-pub records-count : (n : ℕ) (ns : List ℕ) → 6 * n ≤ length ns → length (recordsIn n ns) ≡ n
+pub records-named : (n : ℕ) (ns : List ℕ) → 6 * n ≤ length ns → length (recordsIn n ns) ≡ n
 unfolding recordsIn
-records-count zero ns h = refl
-records-count (suc n) ns h =
+records-named zero ns h = refl
+records-named (suc n) ns h =
     let l : 6 ≤ length ns = omega arith in
-    rw (le-ltb (length ns) 6 l) (ap suc (records-count n (drop 6 ns) (omega (arith, length-drop 6 ns))))
+    rw (le-ltb (length ns) 6 l) (ap suc (records-named n (drop 6 ns) (omega (arith, length-drop 6 ns))))
 
 -- numbers come back from the records that they name
 module _ (ns : List ℕ) (words : (i : ℕ) → getD ns i 0 < 2 ^ 64) where

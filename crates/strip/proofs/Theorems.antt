@@ -1,31 +1,36 @@
 -- What is promised of records and strips, in words of the definitions.
-use mathlib.Core.Path.{_≡_, refl, sym, ap, ap₂, _∙_}
+use mathlib.Core.Path.{_≡_, sym, ap, ap₂, _∙_}
 use mathlib.Core.Bool.{true}
 use mathlib.Core.List.{List}
-use Prim.Native.Nat.{ℕ, _*_, _^_, _<_, _≤_}
+use Prim.Native.Nat.{ℕ, _+_, _*_, _^_, _<_, _≤_}
 use native.Mathlib.Nat.{zero-add}
 use native.Mathlib.Omega.{arith}
 use lib.ListN.{length, getD, take}
 use lib.Seq.{sets, length-take-le}
 use Rattle.bits.specs.declared.Order.the-variants.{Big}
-use Rattle.bits.specs.Refusals.{longest, done}
+use Rattle.bits.specs.Refusals.{longest, done, tooFew}
 use Rattle.bits.specs.Field.{field}
-use Rattle.packing.specs.Packing.{Belongs, put, putOut}
-use Rattle.packing.proofs.PutLaws.{put-next}
+use Rattle.bits.proofs.StoreLaws.{front-take}
+use Rattle.reader.specs.Answers as R
 use Rattle.writer.specs.declared.Writer.{Writer}
-use Rattle.writer.specs.Writer.{stateIn, bitsWritten}
-use Rattle.writer.specs.Answers.{flushOut}
+use Rattle.writer.specs.Writer.{bitsWritten}
+use Rattle.writer.specs.Answers.{flushOf, flushOut}
+use Rattle.writer.specs.Answers as W
+use Rattle.writer.proofs.FlushLaws.{stored-found}
 use Rattle.record.specs.declared.Record.{Record}
 use Rattle.record.specs.Record.{Fits, recordBits, noRecord}
 use Rattle.record.proofs.FitLaws.{fits-true}
 use Rattle.strip.specs.Bits.{bitsOf, recordAt}
-use Rattle.strip.specs.Strip.{allNumbers, recordsIn, allFit, stripLength, recordsOf, countOf, tailGood}
-use Rattle.strip.specs.Answers.{packOf, packOut, stripOf, stripOut, packedOut, listOf, listOut}
+use Rattle.strip.specs.Strip.{allNumbers, recordsIn, allFit, stripLength, stripBytes, recordsOf, countOf, tailGood}
+use Rattle.strip.specs.Answers.{packOf, packOut, readOf, stripOf, packedOut, listOf, listOut}
+use Rattle.strip.specs.Calls.{packEach, readTimes}
 use Rattle.strip.proofs.BitsLaws.{bits-lt, bits-found, found-bits}
-use Rattle.strip.proofs.ListLaws.{front-stored, records-back, records-count, numbers-back}
-use Rattle.strip.proofs.AnswerLaws.{pack-passed, pack-done, flush-done, strip-passed, strip-done}
+use Rattle.strip.proofs.ListLaws.{records-back, records-named, numbers-back}
+use Rattle.strip.proofs.AnswerLaws.{pack-passed, pack-stored, strip-passed, strip-done}
 use Rattle.strip.proofs.PackedLaws.{record-found}
-use Rattle.strip.proofs.StripLaws.{put-found, strip, strip-alone, alone-count, alone-records, alone-tail, strip-read}
+use Rattle.strip.proofs.StripLaws.{length-strip, strip-count, strip-records, strip-tail, strip-read}
+use Rattle.strip.proofs.MidwayLaws.{fresh, midway-start}
+use Rattle.strip.proofs.CallLaws.{each-packs, behind-none, behind-times, read-found, none-read}
 
 -- ---- one record
 
@@ -42,36 +47,43 @@ pub record-there : (s : List ℕ) (w : Writer) (r : Record) → packOf (length s
     → recordAt (flushOut Big (packOut s w r) (packOf (length s) w r .writer)) (bitsWritten w) ≡ r
 unfolding packOf
 record-there s w r z =
-    let (h, room, fit-test) = pack-passed (length s) w r z in
+    let (belongs, room, fit-test) = pack-passed (length s) w r z in
     let fit = fits-true r fit-test in
-    let (writer-is, out-is) = pack-done s w r z in
-    let c = stateIn w in
-    let d = put Big c recordBits (bitsOf r) in
-    let t = putOut Big s c recordBits (bitsOf r) in
-    let b : Belongs (length t) d = put-next Big s c h recordBits 0 (bits-lt r fit) (omega arith) t d refl refl .0 in
-    ap₂ (λ (u : List ℕ) (x : Writer). recordAt (flushOut Big u x) (bitsWritten w)) out-is writer-is ∙ ap (λ (u : List ℕ). recordAt u (bitsWritten w)) (flush-done t d b) ∙ put-found s c r h fit room
+    bits-found r fit _ (bitsWritten w) (stored-found Big s w belongs (bits-lt r fit) (pack-stored s w r z))
 
 -- ---- whole strips
 
--- records that fit, packed and flushed, are read back from the written bytes alone, and the tail is good
-pub strip-there-and-back : (rs : List Record) (s : List ℕ) → allFit rs ≡ true → length s ≤ longest → stripLength (length rs) ≤ length s
-    → (recordsOf (take (stripLength (length rs)) (stripOut rs s)) ≡ rs) × (tailGood (take (stripLength (length rs)) (stripOut rs s)) ≡ true)
-strip-there-and-back rs s fit short room =
-    let a = strip-alone rs s fit short room in
-    (alone-records rs fit _ _ a, alone-tail rs fit _ _ a)
+-- records that fit are read back from their strip, and its tail is good
+pub strip-there-and-back : (rs : List Record) → allFit rs ≡ true → (recordsOf (stripBytes rs) ≡ rs) × (tailGood (stripBytes rs) ≡ true)
+strip-there-and-back rs fit = (strip-records rs fit, strip-tail rs fit)
 
 -- record i of the strip starts at bit 89 i
-pub fields-where : (rs : List Record) (s : List ℕ) → allFit rs ≡ true → length s ≤ longest → stripLength (length rs) ≤ length s
-    → (i : ℕ) → i < length rs → recordAt (take (stripLength (length rs)) (stripOut rs s)) (recordBits * i) ≡ getD rs i noRecord
-fields-where rs s fit short room i h =
-    let b = strip rs s in
-    let a = strip-alone rs s fit short room in
-    let l : i < countOf b = omega (arith, alone-count rs fit b _ a) in
-    ap (recordAt b) (sym (zero-add (recordBits * i))) ∙ sym (record-found b 0 (countOf b) i noRecord l) ∙ ap (λ (xs : List Record). getD xs i noRecord) (alone-records rs fit b _ a)
+pub fields-where : (rs : List Record) → allFit rs ≡ true → (i : ℕ) → i < length rs → recordAt (stripBytes rs) (recordBits * i) ≡ getD rs i noRecord
+fields-where rs fit i h =
+    let b = stripBytes rs in
+    let l : i < countOf b = omega (arith, strip-count rs fit) in
+    ap (recordAt b) (sym (zero-add (recordBits * i))) ∙ sym (record-found b 0 (countOf b) i noRecord l) ∙ ap (λ (xs : List Record). getD xs i noRecord) (strip-records rs fit)
 
 -- records that fit come back from their numbers
 pub numbers-there-and-back : (rs : List Record) → allFit rs ≡ true → recordsIn (length rs) (allNumbers rs) ≡ rs
 numbers-there-and-back = records-back
+
+-- ---- calls
+
+-- a call that is done sets the strip of the records at the output's front
+pub packed-out : (ns : List ℕ) (n : ℕ) (s : List ℕ) → stripOf ns n (length s) .refusal ≡ done → packedOut ns n s ≡ sets s 0 (stripBytes (recordsIn n ns))
+unfolding stripOf
+packed-out ns n s z = strip-done ns n s z .1
+
+-- so what it wrote is that strip
+pub packed-strip : (ns : List ℕ) (n : ℕ) (s : List ℕ) → stripOf ns n (length s) .refusal ≡ done → take (stripOf ns n (length s) .length) (packedOut ns n s) ≡ stripBytes (recordsIn n ns)
+unfolding stripOf
+packed-strip ns n s z =
+    let (there, enough, _, _) = strip-passed ns n (length s) z in
+    let (length-is, out-is) = strip-done ns n s z in
+    let b = stripBytes (recordsIn n ns) in
+    let size : length b ≡ stripLength n = length-strip (recordsIn n ns) ∙ ap stripLength (records-named n ns there) in
+    ap₂ (λ (k : ℕ) (u : List ℕ). take k u) (length-is ∙ sym size) out-is ∙ front-take b s (omega (arith, size, enough))
 
 -- numbers that were packed are read back, every one, into any list with room
 pub calls-there-and-back : (ns : List ℕ) (n : ℕ) (s ms : List ℕ) → ((i : ℕ) → getD ns i 0 < 2 ^ 64) → stripOf ns n (length s) .refusal ≡ done → 6 * n ≤ length ms
@@ -81,12 +93,43 @@ unfolding stripOf
 calls-there-and-back ns n s ms words z room =
     let (there, enough, short, fit) = strip-passed ns n (length s) z in
     let rs = recordsIn n ns in
-    let len = records-count n ns there in
-    let back = numbers-back n ns words there in
-    let (length-is, out-is) = strip-done ns n s z in
-    let b-is : take (stripOf ns n (length s) .length) (packedOut ns n s) ≡ strip rs s =
-    ap₂ (λ (k : ℕ) (u : List ℕ). take k u) (length-is ∙ ap stripLength (sym len)) out-is in
-    let (answer, memory) = strip-read rs s fit short (omega arith) ms (omega arith) in (
+    let len = records-named n ns there in
+    let all = take (6 * n) ns in
+    let size : length all ≡ 6 * n = length-take-le (6 * n) ns there in
+    let b-is = packed-strip ns n s z in
+    let (answer, memory) = strip-read rs fit ms (omega (arith, enough, short, len)) (omega (arith, len)) in (
       ap (λ (u : List ℕ). listOf u (length ms)) b-is ∙ answer ∙ (λ i. record { refusal = done; count = len i; «tail_good» = true }),
-      ap (λ (u : List ℕ). take (6 * n) (listOut u ms)) b-is ∙ ap (take (6 * n)) (memory ∙ ap (sets ms 0) back) ∙ front-stored ms (take (6 * n) ns) (6 * n) (length-take-le (6 * n) ns there) room,
+      ap (λ (u : List ℕ). take (6 * n) (listOut u ms)) b-is ∙ ap (take (6 * n)) (memory ∙ ap (sets ms 0) (numbers-back n ns words there))
+          ∙ ap (λ (k : ℕ). take k (sets ms 0 all)) (sym size) ∙ front-take all ms (omega (arith, size, room)),
     )
+
+-- pack_record for each record and a flush leave what pack_strip leaves
+pub each-packed : (ns : List ℕ) (n : ℕ) (s : List ℕ) → stripOf ns n (length s) .refusal ≡ done →
+    let e = packEach s (W.newOf (length s) .writer) (recordsIn n ns) in
+    (e .refusal ≡ done)
+    × (flushOf Big (length s) (e .writer) .refusal ≡ done)
+    × (flushOf Big (length s) (e .writer) .writer .written ≡ stripOf ns n (length s) .length)
+    × (flushOut Big (e .out) (e .writer) ≡ packedOut ns n s)
+unfolding stripOf W.newOf
+each-packed ns n s z =
+    let (there, enough, short, fit) = strip-passed ns n (length s) z in
+    let (length-is, out-is) = strip-done ns n s z in
+    let rs = recordsIn n ns in
+    let len = records-named n ns there in
+    let (packs, flushes, size, memory) = each-packs rs s (omega (arith, enough, len)) s fresh rs (midway-start rs s short fit) in
+    (packs, flushes, size ∙ ap stripLength len ∙ sym length-is, memory ∙ sym out-is)
+
+-- read_record again and again, from a fresh cursor: the strip's records in their order, then 9
+pub each-read : (s : List ℕ) → length s ≤ longest →
+    ((i : ℕ) → i < countOf s →
+    let r = readOf s (readTimes i s (R.newOf s .cursor)) in
+    (r .refusal ≡ done) × (r .found ≡ getD (recordsOf s) i noRecord))
+    × (readOf s (readTimes (countOf s) s (R.newOf s .cursor)) .refusal ≡ tooFew)
+each-read s short = (
+  λ i more.
+      let g = behind-times s i 0 (R.newOf s .cursor) (behind-none s short) (omega arith) in
+      let (fine, found) = read-found s (i + 0) (readTimes i s (R.newOf s .cursor)) g (omega arith) in
+      let e : recordBits * (i + 0) ≡ 0 + recordBits * i = omega arith in
+      (fine, found ∙ ap (recordAt s) e ∙ sym (record-found s 0 (countOf s) i noRecord more)),
+  none-read s (countOf s + 0) (readTimes (countOf s) s (R.newOf s .cursor)) (behind-times s (countOf s) 0 (R.newOf s .cursor) (behind-none s short) (omega arith)) (omega arith),
+)

@@ -7,13 +7,12 @@ use lib.Seq.{sets}
 use lib.Dec.{ltb}
 use Rattle.bits.specs.declared.Order.the-variants.{Big}
 use Rattle.bits.specs.Refusals.{longest, done, tooLong, tooLarge, noRoom, tooFew, _⟶_, firstRefusal, ifDone}
-use Rattle.packing.specs.declared.State.{State}
 use Rattle.packing.specs.Packing.{put, putOut}
 use Rattle.reader.specs.declared.Cursor.{Cursor}
 use Rattle.reader.specs.Cursor.{place, bitsLeft, goneTo, cursorRefusal}
 use Rattle.writer.specs.declared.Writer.{Writer}
 use Rattle.writer.specs.declared.Wrote.{Wrote}
-use Rattle.writer.specs.Writer.{stateIn, writerWith, writerRefusal, roomRefusal, padding}
+use Rattle.writer.specs.Writer.{stateIn, writerRefusal, roomRefusal}
 use Rattle.writer.specs.Answers.{wrote}
 use Rattle.record.specs.declared.Record.{Record}
 use Rattle.record.specs.Record.{fits, noRecord, recordBits}
@@ -21,7 +20,7 @@ use Rattle.strip.specs.declared.RecordRead.{RecordRead}
 use Rattle.strip.specs.declared.Packed.{Packed}
 use Rattle.strip.specs.declared.StripRead.{StripRead}
 use Rattle.strip.specs.Bits.{bitsOf, recordAt}
-use Rattle.strip.specs.Strip.{recordsIn, allFit, allNumbers, putRecords, putRecordsOut, stripLength, countOf, recordsOf, tailGood}
+use Rattle.strip.specs.Strip.{recordsIn, allFit, allNumbers, stripLength, stripBytes, countOf, recordsOf, tailGood}
 
 -- ---- one record
 
@@ -70,17 +69,9 @@ stripOf ns n len =
       length = ifDone (stripRefusal ns n len) (stripLength n) 0;
     }
 
--- a fresh writer's state
-abbrev pub fresh : State
-fresh = record { written = 0; held = 0; number = 0 }
-
--- the output after records and a flush
-unfoldable pub stripOut : List Record → List ℕ → List ℕ
-stripOut rs s =
-    putOut Big (putRecordsOut s fresh rs) (putRecords fresh rs) (padding (writerWith (putRecords fresh rs))) 0
-
+-- the strip at the front of the output, the rest untouched
 unfoldable pub packedOut : List ℕ → ℕ → List ℕ → List ℕ
-packedOut ns n s = ifDone (stripRefusal ns n (length s)) (stripOut (recordsIn n ns) s) s
+packedOut ns n s = ifDone (stripRefusal ns n (length s)) (sets s 0 (stripBytes (recordsIn n ns))) s
 
 -- 1, then 8 where the list lacks room for every record
 unfoldable pub listRefusal : List ℕ → ℕ → ℕ

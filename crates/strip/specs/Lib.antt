@@ -1,3 +1,4 @@
 pub mod Bits
 pub mod Strip
 pub mod Answers
+pub mod Calls

@@ -1,14 +1,13 @@
 -- Strips: records one behind the other and zeros up to a byte; and lists of numbers, six a record.
-use Prim.Native.Nat.{ℕ, zero, suc, _+_, _*_, _/_, _%_}
+use Prim.Native.Nat.{ℕ, zero, suc, _+_, _-_, _*_, _/_, _%_}
 use mathlib.Core.Bool.{Bool, true, cond, _&&_}
 use mathlib.Core.List.{List, [], _∷_, _++_}
 use lib.ListN.{length, getD, drop}
 use lib.Dec.{eqb, ltb}
 use Rattle.bits.specs.declared.Order.the-variants.{Big}
-use Rattle.bits.specs.Field.{field}
+use Rattle.bits.specs.Field.{join, field}
 use Rattle.bits.specs.Signed.{pattern}
-use Rattle.packing.specs.declared.State.{State}
-use Rattle.packing.specs.Packing.{put, putOut}
+use Rattle.packing.specs.Packing.{bytesOf}
 use Rattle.record.specs.declared.Record.{Record}
 use Rattle.record.specs.Record.{fits, recordOf, recordBits}
 use Rattle.strip.specs.Bits.{bitsOf, recordAt}
@@ -39,18 +38,22 @@ allFit (r ∷ rs) = fits r && allFit rs
 
 -- ---- packing
 
--- the writer and the output after records, 89 bits each
-unfoldable pub putRecords : State → List Record → State
-putRecords c [] = c
-putRecords c (r ∷ rs) = putRecords (put Big c recordBits (bitsOf r)) rs
-
-unfoldable pub putRecordsOut : List ℕ → State → List Record → List ℕ
-putRecordsOut s c [] = s
-putRecordsOut s c (r ∷ rs) = putRecordsOut (putOut Big s c recordBits (bitsOf r)) (put Big c recordBits (bitsOf r)) rs
+-- the bits of records, one behind the other, as one number
+unfoldable pub joined : List Record → ℕ
+joined [] = 0
+joined (r ∷ rs) = join Big recordBits (recordBits * length rs) (bitsOf r) (joined rs)
 
 -- how many bytes the strip of n records has
 abbrev pub stripLength : ℕ → ℕ
 stripLength n = (recordBits * n + 7) / 8
+
+-- how many zeros stand behind n records, up to a byte
+abbrev pub stripPadding : ℕ → ℕ
+stripPadding n = 8 * stripLength n - recordBits * n
+
+-- the strip of records: the bytes of their bits, and of the zeros behind them
+unfoldable pub stripBytes : List Record → List ℕ
+stripBytes rs = bytesOf Big (stripLength (length rs)) 0 (join Big (recordBits * length rs) (stripPadding (length rs)) (joined rs) 0)
 
 -- ---- reading
 

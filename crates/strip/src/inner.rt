@@ -17,8 +17,8 @@ ghost use Rattle.bits.specs.Signed.{signed, pattern};
 ghost use Rattle.packing.specs.Packing.{Belongs, bitsWritten, put, putOut};
 ghost use Rattle.record.specs.Record.{fits, recordBits};
 ghost use Rattle.strip.specs.Bits.{bitsOf, recordAt};
-ghost use Rattle.strip.specs.Strip.{numbersOf, recordsIn, allFit, allNumbers, stripLength, recordsFrom, tailGood as tailGood·of};
-ghost use Rattle.strip.specs.Answers.{packRefusal, readRefusal, stripRefusal, stripOut, listRefusal};
+ghost use Rattle.strip.specs.Strip.{numbersOf, recordsIn, allFit, allNumbers, stripLength, stripBytes, recordsFrom, tailGood as tailGood·of};
+ghost use Rattle.strip.specs.Answers.{packRefusal, readRefusal, stripRefusal, listRefusal};
 
 // The bits of a record's last four fields.
 const LAST_FOUR: u32 = 31;
@@ -175,7 +175,7 @@ pub fn strip_refusal(numbers: &[u64], n: usize, len: usize) -> u32
 pub fn put_strip(numbers: &[u64], n: usize, out: &mut [u8]) -> usize
     requires { ⌜ (6 * n ≤ length (now numbers)) × (stripLength n ≤ length (now out)) × (length (now out) ≤ longest) × (allFit (recordsIn n (now numbers)) ≡ true) ⌝ }
     ensures answer { λ r. ⌜ r ≡ stripLength n ⌝ }
-    ensures memory { λ _. ⌜ now (out .exit) ≡ stripOut (recordsIn n (now (numbers .entry))) (now (out .entry)) ⌝ }
+    ensures memory { λ _. ⌜ now (out .exit) ≡ sets (now (out .entry)) 0 (stripBytes (recordsIn n (now (numbers .entry)))) ⌝ }
 {
     let mut c = State {
         written: 0,

@@ -1,9 +1,10 @@
 -- Laws of answers: what a refusal number says, and what is answered and left with it.
-use Prim.Native.Nat.{ℕ, _+_, _*_, _/_, _<_, _≤_}
+use Prim.Native.Nat.{ℕ, _*_, _/_, _<_, _≤_}
 use mathlib.Core.Path.{_≡_, sym, ap, _∙_}
 use mathlib.Core.Bool.{true, false, cond}
 use mathlib.Core.List.{List}
 use lib.ListN.{length}
+use lib.Seq.{sets}
 use lib.Dec.{eqb}
 use native.Mathlib.Omega.{arith}
 use borrow.Author.Tests.{lt-ltb, le-ltb, ne-eqb}
@@ -11,8 +12,7 @@ use Rattle.bits.specs.Refusals.{longest, done, tooLong, badLine, noRoom, orElse
 use Rattle.bits.proofs.RefusalLaws.{passed, test-held, at-most}
 use Rattle.record.specs.declared.Record.{Record}
 use Rattle.record.specs.Record.{recordBits}
-use Rattle.strip.specs.Strip.{stripLength}
-use Rattle.strip.specs.Answers.{stripOut}
+use Rattle.strip.specs.Strip.{stripLength, stripBytes}
 use Rattle.text.specs.declared.Listed.{Listed}
 use Rattle.text.specs.declared.Packed.{Packed}
 use Rattle.text.specs.declared.inner.Found.{Found}
@@ -56,11 +56,12 @@ module _ (t : List ℕ) (len : ℕ) where
       unfolding packRefusal firstRefusal orElse
       other-header e = rw (le-ltb longest (length t) short, le-ltb longest len short-out, e)
 
-      module _ (e : headed header t ≡ true) (n : ℕ) (count : n ≡ length (bodyOf t .records)) where
-        pub bad-line : bodyOf t .good ≡ false → found badLine (n + 2) ≡ foundOf t len
-        unfolding packRefusal firstRefusal orElse
-        bad-line f = rw (le-ltb longest (length t) short, le-ltb longest len short-out, e, f) (ap (λ (k : ℕ). found badLine (k + 2)) count)
+      pub bad-line : (n : ℕ) → headed header t ≡ true → bodyOf t .good ≡ false → n ≡ badLineOf t → found badLine n ≡ foundOf t len
+      unfolding packRefusal firstRefusal orElse
+      bad-line n e f k =
+          rw (le-ltb longest (length t) short, le-ltb longest len short-out, e, f) (ap (found badLine) (rw e at k))
 
+      module _ (e : headed header t ≡ true) (n : ℕ) (count : n ≡ length (bodyOf t .records)) where
         pub no-room : bodyOf t .good ≡ true → 8 * len / recordBits < n → found noRoom 0 ≡ foundOf t len
         unfolding packRefusal firstRefusal orElse
         no-room f h =
@@ -101,7 +102,7 @@ module _ (t out : List ℕ) {f : Found} (g : f ≡ foundOf t (length out)) where
       let k = ne-eqb _ _ h in
       (ap (λ (x : Found). packed (x .refusal) 0 (x .line)) g ∙ rw (← refusal-is, k), rw (← refusal-is, k))
 
-  pub pack-done : {n : ℕ} {last : List ℕ} → f .refusal ≡ done → n ≡ stripLength (length (bodyOf t .records)) → last ≡ stripOut (bodyOf t .records) out
+  pub pack-done : {n : ℕ} {last : List ℕ} → f .refusal ≡ done → n ≡ stripLength (length (bodyOf t .records)) → last ≡ sets out 0 (stripBytes (bodyOf t .records))
       → (packed done n 0 ≡ packOf t (length out)) × (last ≡ packOut t out)
   unfolding packOf packOut
   pack-done h e k = rw (← refusal-is, h) (ap (λ (n : ℕ). packed done n 0) e, k)
@@ -109,11 +110,11 @@ module _ (t out : List ℕ) {f : Found} (g : f ≡ foundOf t (length out)) where
 -- a text whose lines are read as records, all good
 module _ (t out : List ℕ) (short : length t ≤ longest) (short-out : length out ≤ longest) (head : headed header t ≡ true) where
   pub pack-read : (rs : List Record) → bodyOf t ≡ allRead rs → stripLength (length rs) ≤ length out
-      → (packOf t (length out) ≡ packed done (stripLength (length rs)) 0) × (packOut t out ≡ stripOut rs out)
+      → (packOf t (length out) ≡ packed done (stripLength (length rs)) 0) × (packOut t out ≡ sets out 0 (stripBytes rs))
   unfolding packOf packOut
   pack-read rs read room =
       let good = ap (λ (l : Lines). l .good) read in
       let count = ap (λ (l : Lines). length (l .records)) (sym read) in
       let fine = has-room t (length out) short short-out head (length rs) count good (omega arith) in
       let z : packRefusal t (length out) ≡ done = ap (λ (f : Found). f .refusal) (sym fine) in
-      rw z (ap (λ (l : Lines). packed done (stripLength (length (l .records))) 0) read, ap (λ (l : Lines). stripOut (l .records) out) read)
+      rw z (ap (λ (l : Lines). packed done (stripLength (length (l .records))) 0) read, ap (λ (l : Lines). sets out 0 (stripBytes (l .records))) read)

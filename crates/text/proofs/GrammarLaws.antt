@@ -1,15 +1,15 @@
 -- Texts of the grammar are read, and what is read is of the grammar.
 use Prim.Native.Nat.{ℕ, zero, suc}
-use mathlib.Core.Path.{_≡_, refl, ap, ap₂, _∙_}
+use mathlib.Core.Path.{_≡_, refl, sym, ap, ap₂, _∙_}
 use mathlib.Core.Bool.{Bool, true, false, cond}
-use mathlib.Core.List.{List, [], _∷_, _++_}
+use mathlib.Core.List.{List, [], _∷_, _++_, append-nil}
 use lib.ListN.{length, drop, length-append}
 use lib.Seq.{drop-at}
 use native.Mathlib.Omega.{arith}
 use borrow.Author.Tests.{eqb-true, eq-eqb}
 use Rattle.bits.proofs.TestLaws.{both}
 use Rattle.record.specs.declared.Record.{Record}
-use Rattle.line.specs.Grammar.{Parts, spelled}
+use Rattle.line.specs.Grammar.{Parts, spelled, meant}
 use Rattle.line.proofs.GrammarLaws.{spelled-longer}
 use Rattle.line.specs.Reading.{begins, firstOf, behind, isNil}
 use Rattle.line.proofs.ReadLaws.{begins-good}
@@ -18,10 +18,11 @@ use Rattle.line.proofs.AnswerLaws.{nil-is}
 use Rattle.listing.specs.Listing.{lineOf}
 use Rattle.listing.proofs.PieceLaws.{line-length}
 use Rattle.listing.proofs.TripLaws.{line-begins, line-first, line-behind}
+use Rattle.listing.proofs.SameLaws.{line-back}
 use Rattle.strip.specs.Strip.{allFit}
 use Rattle.strip.proofs.FitLaws.{all-fit-parts}
-use Rattle.text.specs.Text.{header, listed, headed, more, stopped, linesIn, linesOf, bodyOf}
-use Rattle.text.specs.Grammar.{allSpelled, allMeant, AllGood, and, none, Many}
+use Rattle.text.specs.Text.{header, listed, headed, Lines, more, stopped, linesIn, linesOf, bodyOf}
+use Rattle.text.specs.Grammar.{allSpelled, allMeant, AllGood, and, none, AllFive, noLine, five, Many, GoodText}
 use Rattle.text.proofs.LinesLaws.{allRead, lines-none, lines-next}
 
 -- ---- the header
@@ -57,16 +58,24 @@ listed-lines (r ∷ rs) h =
     ∙ ap₂ (λ (q : Record) (x : List ℕ). more q (linesOf x)) (line-first r f s) (line-behind r f s)
     ∙ ap (more r) (listed-lines rs others)
 
--- good lines
-pub spelled-lines : (ps : List Parts) → AllGood ps → linesOf (allSpelled ps) ≡ allRead (allMeant ps)
+-- records in front of lines
+abbrev pub before : List Record → Lines → Lines
+before rs l = record { records = rs ++ l .records; good = l .good }
+
+-- good lines, and a text behind them
+pub lines-behind : (ps : List Parts) → AllGood ps → (s : List ℕ) → linesOf (allSpelled ps s) ≡ before (allMeant ps) (linesOf s)
 unfolding allSpelled allMeant
-spelled-lines [] none = lines-none 0
-spelled-lines (p ∷ ps) (and g others) =
-    let s = allSpelled ps in
-    let l = spelled-longer p s in
-    lines-next (spelled p s) (omega arith) (begins-spelled p s g)
-    ∙ ap₂ (λ (q : Record) (x : List ℕ). more q (linesOf x)) (first-spelled p s g) (behind-spelled p s g)
-    ∙ ap (more _) (spelled-lines ps others)
+lines-behind [] none s = refl
+lines-behind (p ∷ ps) (and g others) s =
+    let t = allSpelled ps s in
+    let l = spelled-longer p t in
+    lines-next (spelled p t) (omega arith) (begins-spelled p t g)
+    ∙ ap₂ (λ (q : Record) (x : List ℕ). more q (linesOf x)) (first-spelled p t g) (behind-spelled p t g)
+    ∙ ap (more _) (lines-behind ps others s)
+
+-- good lines, and nothing behind them
+pub spelled-lines : (ps : List Parts) → AllGood ps → linesOf (allSpelled ps []) ≡ allRead (allMeant ps)
+spelled-lines ps g = lines-behind ps g [] ∙ ap (before (allMeant ps)) (lines-none 0) ∙ ap allRead (append-nil (allMeant ps))
 
 -- ---- from records to lines
 
@@ -98,3 +107,18 @@ good-many (suc n) s e = by (isNil s) (begins s) refl refl (good-many n (behind s
     by true u p q others h = many-none s p
     by false true p q others h = many-more s _ q (others h)
     by false false p q others h = absurd (let z : _≡_ {A = ℕ} 0 1 = cc in omega arith)
+
+-- ---- lines whose dates have five decimals
+
+-- they are the lines of their records
+pub listed-same : (ps : List Parts) → AllGood ps → AllFive ps → listed (allMeant ps) ≡ allSpelled ps []
+unfolding listed allMeant allSpelled
+listed-same [] none noLine = refl
+listed-same (p ∷ ps) (and g others) (five e fives) =
+    ap (λ (s : List ℕ). lineOf (meant p) ++ s) (listed-same ps others fives) ∙ sym (line-back p g e (allSpelled ps []))
+
+-- so a good text of such lines is the text of its records
+pub text-same : {t : List ℕ} {rs : List Record} (g : GoodText t rs) → AllFive (g .lines .parts) → header ++ listed rs ≡ t
+text-same g f =
+    let l = g .lines in
+    ap (λ (s : List ℕ). header ++ s) (ap listed (l .names) ∙ listed-same (l .parts) (l .good) f ∙ sym (l .text)) ∙ sym (g .text)

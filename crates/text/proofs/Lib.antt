@@ -1,7 +1,9 @@
-mod HeaderLaws
+pub mod HeaderLaws
 mod LinesLaws
 mod PackLaws
-mod ListLaws
+pub mod ListLaws
 pub mod AnswerLaws
-mod GrammarLaws
+pub mod GrammarLaws
+pub mod BadLineLaws
+pub mod LongestLaws
 pub mod Theorems

@@ -8,6 +8,7 @@ use lib.Seq.{drop-length}
 use native.Mathlib.Omega.{arith}
 use Rattle.bits.proofs.TestLaws.{by-test}
 use Rattle.record.specs.declared.Record.{Record}
+use Rattle.strip.specs.Strip.{allFit}
 use Rattle.line.specs.Reading.{begins, firstOf, behind, isNil}
 use Rattle.line.proofs.ReadLaws.{behind-shorter}
 use Rattle.line.proofs.AnswerLaws.{some-left}
@@ -64,6 +65,21 @@ lines-few (suc n) s = by (isNil s) (begins s) (lines-few n (behind s))
     by true u h = omega arith
     by false true h = omega arith
     by false false h = omega arith
+
+-- each of their records fits
+lines-fit : (n : ℕ) (s : List ℕ) → allFit (linesIn n s .records) ≡ true
+unfolding linesIn allFit
+lines-fit zero s = refl
+lines-fit (suc n) s = by (isNil s) (begins s) refl (lines-fit n (behind s))
+  where
+    by : (t u : Bool) → begins s ≡ u → allFit (linesIn n (behind s) .records) ≡ true
+        → allFit (cond t (stopped true) (cond u (more (firstOf s) (linesIn n (behind s))) (stopped false)) .records) ≡ true
+    by true u e h = refl
+    by false true e h = rw e h
+    by false false e h = refl
+
+pub body-fits : (t : List ℕ) → allFit (bodyOf t .records) ≡ true
+body-fits t = lines-fit (length (drop (length header) t)) (drop (length header) t)
 
 pub body-few : (t : List ℕ) → length (bodyOf t .records) ≤ length t
 body-few t =

@@ -1,48 +1,22 @@
 -- Laws of listed records: those of a strip, one line after the other, and the whole text put piece by piece.
 use Prim.Native.Nat.{ℕ, zero, suc, _+_, _-_, _*_, _/_, _<_, _≤_}
-use mathlib.Core.Path.{_≡_, refl, sym, ap, _∙_}
+use mathlib.Core.Path.{_≡_, sym, ap, _∙_}
 use mathlib.Core.Bool.{Bool, true, false, cond}
 use mathlib.Core.List.{List, [], _++_}
 use lib.ListN.{length, length-append}
 use lib.Seq.{sets}
 use native.Mathlib.Nat.{sub-zero}
 use native.Mathlib.Omega.{arith}
-use Rattle.bits.specs.declared.Order.the-variants.{Big}
 use Rattle.bits.proofs.TestLaws.{by-test}
 use Rattle.bits.proofs.StoreLaws.{sets-append}
-use Rattle.bits.proofs.FieldLaws.{field-lt}
-use Rattle.sign.proofs.SignedLaws.{signed-fits}
-use Rattle.record.specs.Record.{Fits, recordBits}
-use Rattle.record.proofs.FitLaws.{true-fits}
+use Rattle.record.specs.Record.{recordBits}
 use Rattle.strip.specs.Bits.{recordAt}
-use Rattle.strip.specs.Strip.{allFit, recordsFrom, recordsOf, tailGood}
+use Rattle.strip.specs.Strip.{recordsFrom, recordsOf, tailGood}
+use Rattle.strip.proofs.PackedLaws.{record-fits}
 use Rattle.listing.specs.Listing.{lineOf, sizeOf}
 use Rattle.listing.proofs.PieceLaws.{line-length, size-few}
 use Rattle.text.specs.Text.{header, badTail, listed, textOf}
 use Rattle.text.proofs.HeaderLaws.{headerLength, badTailLength, length-header, length-bad-tail}
-
--- a record of a strip fits
-pub record-fits : (s : List ℕ) (p : ℕ) → Fits (recordAt s p)
-unfolding recordAt
-record-fits s p =
-    record {
-      star = field-lt Big s p 20;
-      date = field-lt Big s (p + 20) 38;
-      limit = field-lt Big s (p + 58) 1;
-      magnitude = signed-fits 15 _ (field-lt Big s (p + 59) 16);
-      error = field-lt Big s (p + 75) 10;
-      filter = field-lt Big s (p + 85) 4;
-    }
-
-pub records-fit : (s : List ℕ) (p n : ℕ) → allFit (recordsFrom s p n) ≡ true
-unfolding allFit recordsFrom
-records-fit s p zero = refl
-records-fit s p (suc n) = rw (true-fits (recordAt s p) (record-fits s p)) (records-fit s (p + recordBits) n)
-
-pub records-count : (s : List ℕ) (p n : ℕ) → length (recordsFrom s p n) ≡ n
-unfolding recordsFrom
-records-count s p zero = refl
-records-count s p (suc n) = ap suc (records-count s (p + recordBits) n)
 
 -- ---- the lines of n records from place p on, i of them passed
 

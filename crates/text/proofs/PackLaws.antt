@@ -11,16 +11,14 @@ use Rattle.packing.specs.declared.State.{State}
 use Rattle.packing.specs.Packing.{bitsWritten, put, putOut}
 use Rattle.record.specs.declared.Record.{Record}
 use Rattle.record.specs.Record.{fits, recordBits}
-use Rattle.record.proofs.FitLaws.{fits-true}
 use Rattle.strip.specs.Bits.{bitsOf}
 use Rattle.strip.specs.Strip.{stripLength}
-use Rattle.strip.specs.Answers.{fresh}
-use Rattle.strip.proofs.MidwayLaws.{Midway, midway-start, midway-room, midway-step}
+use Rattle.strip.proofs.MidwayLaws.{fresh, Midway, midway-start, midway-room, midway-step}
 use Rattle.line.specs.declared.inner.LineAt.{LineAt}
 use Rattle.line.specs.Reading.{begins, firstOf, LineStands}
 use Rattle.text.specs.Text.{header, Lines, more, bodyOf}
 use Rattle.text.proofs.HeaderLaws.{headerLength, length-header}
-use Rattle.text.proofs.LinesLaws.{linesFrom, body-from, from-next, from-good, from-end}
+use Rattle.text.proofs.LinesLaws.{linesFrom, body-fits, body-from, from-next, from-good, from-end}
 
 -- the lines from `at` on are good, and their records are left
 pub record Underway (t out₀ out : List ℕ) (c : State) (at : ℕ) : Type 0 where
@@ -34,7 +32,7 @@ module _ (t out₀ : List ℕ) where
       record {
         within = omega (arith, h, length-header);
         good = ap (λ (l : Lines). l .good) (sym (body-from t)) ∙ e;
-        midway = subst (λ (l : Lines). Midway (bodyOf t .records) out₀ out₀ fresh (l .records)) (body-from t) (midway-start (bodyOf t .records) out₀ short);
+        midway = subst (λ (l : Lines). Midway (bodyOf t .records) out₀ out₀ fresh (l .records)) (body-from t) (midway-start (bodyOf t .records) out₀ short (body-fits t));
       }
 
   module _ (out : List ℕ) (c : State) (at : ℕ) (g : Underway t out₀ out c at) where
@@ -66,7 +64,7 @@ module _ (t out₀ : List ℕ) where
             record {
               within = x .within;
               good = ap (λ (l : Lines). l .good) (sym lines-are) ∙ g .good;
-              midway = midway-step (bodyOf t .records) out₀ out c _ _ midway-here room (fits-true (r .«record») underway-fits) u d hu hd;
+              midway = midway-step (bodyOf t .records) out₀ out c _ _ midway-here room u d hu hd;
             }
 
     pub underway-end : length t ≤ at → Midway (bodyOf t .records) out₀ out c []

@@ -1,22 +1,25 @@
 -- What is promised of whole texts, in words of the definitions.
-use mathlib.Core.Path.{_≡_, sym, ap, ap₂, _∙_, subst}
+use mathlib.Core.Path.{_≡_, sym, ap, ap₂, _∙_}
 use mathlib.Core.Bool.{Bool, true, cond}
 use mathlib.Core.List.{List, [], _++_, append-nil}
-use Prim.Native.Nat.{ℕ, _≤_}
-use lib.ListN.{length, take, drop}
+use Prim.Native.Nat.{ℕ, _^_, _<_, _≤_}
+use native.Mathlib.Omega.{arith}
+use lib.ListN.{length, getD, take, drop}
+use lib.Seq.{sets}
 use Rattle.bits.specs.Refusals.{longest, done}
+use Rattle.bits.proofs.StoreLaws.{front-take}
 use Rattle.record.specs.declared.Record.{Record}
-use Rattle.strip.specs.Strip.{allFit, stripLength, countOf, recordsOf, tailGood}
-use Rattle.strip.specs.Answers.{stripOut}
+use Rattle.strip.specs.Strip.{allFit, stripLength, stripBytes, countOf, recordsOf, tailGood}
+use Rattle.strip.proofs.PackedLaws.{records-fit}
+use Rattle.strip.proofs.StripLaws.{length-strip, strip-same}
 use Rattle.strip.proofs.Theorems.{strip-there-and-back}
 use Rattle.text.specs.declared.Packed.{Packed}
-use Rattle.text.specs.Text.{header, badTail, listed, textOf, headed, linesOf, bodyOf}
+use Rattle.text.specs.Text.{header, badTail, listed, textOf, headed, Lines, linesOf, bodyOf}
 use Rattle.text.specs.Answers.{packRefusal, packOf, packOut}
-use Rattle.text.specs.Grammar.{GoodText}
-use Rattle.text.proofs.LinesLaws.{allRead}
-use Rattle.text.proofs.ListLaws.{records-fit, records-count}
+use Rattle.text.specs.Grammar.{AllFive, GoodText}
+use Rattle.text.proofs.LinesLaws.{allRead, body-fits}
 use Rattle.text.proofs.AnswerLaws.{packed, pack-tests, pack-read}
-use Rattle.text.proofs.GrammarLaws.{headed-append, headed-is, body-append, listed-lines, spelled-lines, good-many}
+use Rattle.text.proofs.GrammarLaws.{headed-append, headed-is, body-append, listed-lines, spelled-lines, good-many, text-same}
 
 -- ---- which texts pack
 
@@ -26,17 +29,47 @@ good-text t len z =
     let (_, _, head, good, _) = pack-tests t len z in
     record { body = drop (length header) t; text = headed-is header t head; lines = good-many _ _ good }
 
+-- it begins with the header, and its lines are read as those records
+pub good-head : {t : List ℕ} {rs : List Record} → GoodText t rs → headed header t ≡ true
+good-head g = ap (headed header) (g .text) ∙ headed-append header (g .body)
+
+pub good-body : {t : List ℕ} {rs : List Record} → GoodText t rs → bodyOf t ≡ allRead rs
+good-body g =
+    let l = g .lines in
+    ap bodyOf (g .text) ∙ body-append (g .body) ∙ ap linesOf (l .text) ∙ spelled-lines (l .parts) (l .good) ∙ ap allRead (sym (l .names))
+
 -- text-packs: such a text within the limit packs wherever there is room, into the strip of its records
 pub text-packs : {t : List ℕ} {rs : List Record} (out : List ℕ) → GoodText t rs → length t ≤ longest → length out ≤ longest → stripLength (length rs) ≤ length out
-    → (packOf t (length out) ≡ packed done (stripLength (length rs)) 0) × (packOut t out ≡ stripOut rs out)
+    → (packOf t (length out) ≡ packed done (stripLength (length rs)) 0) × (packOut t out ≡ sets out 0 (stripBytes rs))
 text-packs {t} {rs} out g short short-out room =
-    let l = g .lines in
-    let head : headed header t ≡ true = ap (headed header) (g .text) ∙ headed-append header (g .body) in
-    let read : bodyOf t ≡ allRead rs =
-    ap bodyOf (g .text) ∙ body-append (g .body) ∙ ap linesOf (l .text) ∙ spelled-lines (l .parts) (l .good) ∙ ap allRead (sym (l .names)) in
-    pack-read t out short short-out head rs read room
+    pack-read t out short short-out (good-head g) rs (good-body g) room
+
+-- so what it packs to is that strip
+pub packed-strip : {t : List ℕ} {rs : List Record} (out : List ℕ) → GoodText t rs → length t ≤ longest → length out ≤ longest → stripLength (length rs) ≤ length out
+    → take (packOf t (length out) .length) (packOut t out) ≡ stripBytes rs
+packed-strip {t} {rs} out g short short-out room =
+    let (answer, memory) = text-packs out g short short-out room in
+    ap₂ (λ (n : ℕ) (l : List ℕ). take n l) (ap (λ (a : Packed). a .length) answer ∙ sym (length-strip rs)) memory
+    ∙ front-take (stripBytes rs) out (omega (arith, length-strip rs, room))
 
 -- ---- there and back
+
+-- the text of a strip with a good tail
+good-text-of : (s : List ℕ) → tailGood s ≡ true → textOf s ≡ header ++ listed (recordsOf s)
+good-text-of s e =
+    ap (λ (b : Bool). header ++ (listed (recordsOf s) ++ cond b [] badTail)) e
+    ∙ ap (λ (l : List ℕ). header ++ l) (append-nil (listed (recordsOf s)))
+
+-- text-again: a text whose dates all have five decimals is the text of the strip that it packs to
+pub text-again : {t : List ℕ} {rs : List Record} (out : List ℕ) (g : GoodText t rs) → AllFive (g .lines .parts) → length t ≤ longest → length out ≤ longest
+    → stripLength (length rs) ≤ length out → textOf (take (packOf t (length out) .length) (packOut t out)) ≡ t
+text-again {t} {rs} out g decimals short short-out room =
+    let fit : allFit rs ≡ true = ap (λ (l : Lines). allFit (l .records)) (sym (good-body g)) ∙ body-fits t in
+    let (records, tail) = strip-there-and-back rs fit in
+    ap textOf (packed-strip out g short short-out room)
+    ∙ good-text-of (stripBytes rs) tail
+    ∙ ap (λ (l : List Record). header ++ listed l) records
+    ∙ text-same g decimals
 
 -- listed-read: reading the lines that records were listed as gives the records back
 pub listed-read : (rs : List Record) → allFit rs ≡ true → bodyOf (header ++ listed rs) ≡ allRead rs
@@ -45,21 +78,13 @@ listed-read rs h = body-append (listed rs) ∙ listed-lines rs h
 -- text-there-and-back: reading the text of a strip with a good tail gives the strip's records back
 pub text-there-and-back : (s : List ℕ) → tailGood s ≡ true → bodyOf (textOf s) ≡ allRead (recordsOf s)
 text-there-and-back s e = ap bodyOf (good-text-of s e) ∙ listed-read (recordsOf s) (records-fit s 0 (countOf s))
-  where
-    good-text-of : (s : List ℕ) → tailGood s ≡ true → textOf s ≡ header ++ listed (recordsOf s)
-    good-text-of s e =
-        ap (λ (b : Bool). header ++ (listed (recordsOf s) ++ cond b [] badTail)) e
-        ∙ ap (λ (l : List ℕ). header ++ l) (append-nil (listed (recordsOf s)))
 
--- packed-back: packing the text of a strip with a good tail gives a strip with its records and a good tail
-pub packed-back : (s out : List ℕ) → tailGood s ≡ true → length (textOf s) ≤ longest → length out ≤ longest → stripLength (countOf s) ≤ length out
-    → let b = take (packOf (textOf s) (length out) .length) (packOut (textOf s) out) in
-    (packOf (textOf s) (length out) .refusal ≡ done) × (recordsOf b ≡ recordsOf s) × (tailGood b ≡ true)
-packed-back s out e short short-out room =
+-- packed-back: packing the text of a strip with a good tail gives that strip again, byte for byte
+pub packed-back : (s out : List ℕ) → ((i : ℕ) → getD s i 0 < 2 ^ 8) → tailGood s ≡ true → length (textOf s) ≤ longest → length out ≤ longest → length s ≤ length out
+    → (packOf (textOf s) (length out) ≡ packed done (length s) 0) × (packOut (textOf s) out ≡ sets out 0 s)
+packed-back s out bytes e short short-out room =
     let rs = recordsOf s in
-    let room′ : stripLength (length rs) ≤ length out = subst (λ (n : ℕ). stripLength n ≤ length out) (sym (records-count s 0 (countOf s))) room in
-    let (answer, memory) = pack-read (textOf s) out short short-out (headed-append header _) rs (text-there-and-back s e) room′ in
-    let (records, tail) = strip-there-and-back rs out (records-fit s 0 (countOf s)) short-out room′ in
-    let b : take (packOf (textOf s) (length out) .length) (packOut (textOf s) out) ≡ take (stripLength (length rs)) (stripOut rs out) =
-    ap₂ (λ (n : ℕ) (l : List ℕ). take n l) (ap (λ (x : Packed). x .length) answer) memory in
-    (ap (λ (x : Packed). x .refusal) answer, ap recordsOf b ∙ records, ap tailGood b ∙ tail)
+    let same : stripBytes rs ≡ s = strip-same s bytes e in
+    let size : stripLength (length rs) ≡ length s = sym (length-strip rs) ∙ ap length same in
+    let (answer, memory) = pack-read (textOf s) out short short-out (headed-append header _) rs (text-there-and-back s e) (omega (arith, size, room)) in
+    (answer ∙ ap (λ (n : ℕ). packed done n 0) size, memory ∙ ap (sets out 0) same)

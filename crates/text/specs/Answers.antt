@@ -6,8 +6,7 @@ use lib.ListN.{length}
 use lib.Seq.{sets}
 use lib.Dec.{eqb, ltb}
 use Rattle.bits.specs.Refusals.{longest, tooLong, badLine, noRoom, _⟶_, firstRefusal, ifDone}
-use Rattle.strip.specs.Strip.{stripLength}
-use Rattle.strip.specs.Answers.{stripOut}
+use Rattle.strip.specs.Strip.{stripLength, stripBytes}
 use Rattle.text.specs.declared.Listed.{Listed}
 use Rattle.text.specs.declared.Packed.{Packed}
 use Rattle.text.specs.Text.{header, textOf, headed, bodyOf, badLineOf}
@@ -50,4 +49,4 @@ packOf t len =
 
 -- the strip of the lines' records at the front of the output, the rest untouched
 unfoldable pub packOut : List ℕ → List ℕ → List ℕ
-packOut t out = ifDone (packRefusal t (length out)) (stripOut (bodyOf t .records) out) out
+packOut t out = ifDone (packRefusal t (length out)) (sets out 0 (stripBytes (bodyOf t .records))) out

@@ -10,8 +10,7 @@ ghost use lib.ListN.{length};
 ghost use lib.Seq.{sets};
 ghost use lib.Dec.{eqb};
 ghost use Rattle.bits.specs.Refusals.{longest, badLine};
-ghost use Rattle.strip.specs.Strip.{stripLength};
-ghost use Rattle.strip.specs.Answers.{stripOut};
+ghost use Rattle.strip.specs.Strip.{stripLength, stripBytes};
 ghost use Rattle.text.specs.Text.{header, badTail, textOf, headed, bodyOf, badLineOf};
 ghost use Rattle.text.specs.Answers.{listRefusal, packRefusal};
 
@@ -199,7 +198,7 @@ fn because(refusal: u32, line: usize) -> Found
 pub fn put_records(text: &[u8], out: &mut [u8]) -> usize
     requires { ⌜ (length header ≤ length (now text)) × (length (now text) ≤ longest) × (length (now out) ≤ longest) × (bodyOf (now text) .good ≡ true) × (stripLength (length (bodyOf (now text) .records)) ≤ length (now out)) ⌝ }
     ensures answer { λ r. ⌜ r ≡ stripLength (length (bodyOf (now (text .entry)) .records)) ⌝ }
-    ensures memory { λ _. ⌜ now (out .exit) ≡ stripOut (bodyOf (now (text .entry)) .records) (now (out .entry)) ⌝ }
+    ensures memory { λ _. ⌜ now (out .exit) ≡ sets (now (out .entry)) 0 (stripBytes (bodyOf (now (text .entry)) .records)) ⌝ }
 {
     let mut c = State {
         written: 0,

@@ -1,1 +1,3 @@
+pub mod SameLaws
+mod WrittenLaws
 pub mod Theorems

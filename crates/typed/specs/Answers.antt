@@ -2,7 +2,7 @@
 use Prim.Native.Nat.{ℕ}
 use mathlib.Core.List.{List}
 use Rattle.bits.specs.declared.Order.{Order}
-use Rattle.bits.specs.Refusals.{done, ifDone}
+use Rattle.bits.specs.Refusals.{ifDone}
 use Rattle.floats.specs.Floats.{singleBits, doubleBits}
 use Rattle.reader.specs.declared.Cursor.{Cursor}
 use Rattle.reader.specs.declared.ReadU64.{ReadU64}
@@ -16,16 +16,6 @@ use Rattle.typed.specs.declared.Typed.the-variants as T
 use Rattle.typed.specs.declared.TypedRead.{TypedRead}
 use Rattle.typed.specs.declared.TypedRead.the-variants.{Done, Refused}
 use Rattle.typed.specs.Typed.{widthOf, meaning}
-
--- the refusal number of an answer, by its case
-unfoldable pub refusalIn : TypedRead → ℕ
-refusalIn (Done v c) = done
-refusalIn (Refused n c) = n
-
--- the cursor of an answer
-unfoldable pub cursorIn : TypedRead → Cursor
-cursorIn (Done v c) = c
-cursorIn (Refused n c) = c
 
 -- a value with the cursor that goes on, or a refusal number with the one that came
 unfoldable pub answered : ℕ → Typed → Cursor → TypedRead

@@ -1,7 +1,10 @@
 -- The value of a kind that bits make, and the bits of a typed value.
-use Prim.Native.Nat.{ℕ, _%_, _^_}
+use Prim.Native.Nat.{ℕ, _%_, _^_, _<_, _≤_}
+use mathlib.Core.Bool.{Bool, _&&_}
+use lib.Dec.{eqb}
 use Rattle.bits.specs.Signed.{signed, pattern}
-use Rattle.floats.specs.Floats.{singleOf, singleBits, doubleOf, doubleBits}
+use Rattle.floats.specs.Floats.{singleOf, singleBits, SingleHeld, doubleOf, doubleBits, DoubleHeld}
+use Rattle.roundtrip.specs.Mixed.{InRange}
 use Rattle.typed.specs.declared.Kind.{Kind}
 use Rattle.typed.specs.declared.Kind.the-variants as K
 use Rattle.typed.specs.declared.Typed.{Typed}
@@ -28,6 +31,17 @@ kindOf (T.Signed z) = K.Signed
 kindOf (T.Single x) = K.Single
 kindOf (T.Double x) = K.Double
 
+-- the number of a kind: 0 unsigned, 1 signed, 2 single, 3 double
+unfoldable pub numberOf : Kind → ℕ
+numberOf K.Unsigned = 0
+numberOf K.Signed = 1
+numberOf K.Single = 2
+numberOf K.Double = 3
+
+-- whether two typed values are the same: of one kind, and with the same bits
+unfoldable pub sameTyped : Typed → Typed → Bool
+sameTyped a b = eqb (numberOf (kindOf a)) (numberOf (kindOf b)) && eqb (bitsOf a) (bitsOf b)
+
 -- the number of bits that a value of a kind takes: the width that is asked for, or 32, or 64
 unfoldable pub widthOf : Kind → ℕ → ℕ
 widthOf K.Unsigned w = w
@@ -41,3 +55,10 @@ meaning K.Unsigned w v = T.Unsigned v
 meaning K.Signed w v = T.Signed (signed w v)
 meaning K.Single w v = T.Single (singleOf v)
 meaning K.Double w v = T.Double (doubleOf v)
+
+-- a value that n bits of its kind hold: below 2 ^ n, in the range of two's complement, or any single or double that a machine can hold
+abbrev pub Fits : ℕ → Typed → Type 0
+Fits n (T.Unsigned v) = v < 2 ^ n
+Fits n (T.Signed z) = (n ≤ 64) × InRange n z
+Fits n (T.Single x) = SingleHeld x
+Fits n (T.Double x) = DoubleHeld x

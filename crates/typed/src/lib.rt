@@ -8,7 +8,7 @@ use writer::Writer;
 use writer::Wrote;
 ghost use mathlib.Core.Path.{_≡_};
 ghost use lib.ListN.{length};
-ghost use Rattle.typed.specs.Typed.{typedOf, bitsOf};
+ghost use Rattle.typed.specs.Typed.{typedOf, bitsOf, kindOf, numberOf, sameTyped};
 ghost use Rattle.typed.specs.Answers.{answered, readOf, writeOf, writeOut};
 
 // The four kinds.
@@ -19,7 +19,8 @@ pub enum Kind {
     Double,
 }
 
-// A value of a kind. A single or a double keeps every bit pattern, a NaN's too.
+// A value of a kind. A single or a double keeps every bit pattern, a NaN's too. A value means its bits: a single or a double whose
+// `Bits` are no NaN's is the number with these bits, and no read gives it.
 pub enum Typed {
     Unsigned(u64),
     Signed(i64),
@@ -60,6 +61,31 @@ pub fn bits_of_typed(value: Typed) -> u64
         Typed::Signed(z) => sign::inner::bits_of_signed(z),
         Typed::Single(x) => floats::bits_of_single(x) as u64,
         Typed::Double(x) => floats::bits_of_double(x),
+    }
+}
+
+// Whether two typed values are the same: of one kind, and with the same bits.
+//     let near = typed::typed_of_bits(Kind::Unsigned, 0xffff_ffff_ffff_fffe);
+//     expect(b"same_typed", !typed::same_typed(two, near));
+pub fn same_typed(a: Typed, b: Typed) -> bool
+    ensures { λ r. ⌜ r ≡ sameTyped a b ⌝ }
+{
+    if kind_number(a) == kind_number(b) {
+        bits_of_typed(a) == bits_of_typed(b)
+    } else {
+        false
+    }
+}
+
+// The number of a value's kind.
+fn kind_number(value: Typed) -> u32
+    ensures { λ r. ⌜ r ≡ numberOf (kindOf value) ⌝ }
+{
+    match value {
+        Typed::Unsigned(_n) => 0,
+        Typed::Signed(_z) => 1,
+        Typed::Single(_x) => 2,
+        Typed::Double(_x) => 3,
     }
 }
 

@@ -1,3 +1,4 @@
 mod WidthLaws
 pub mod AnswerLaws
 pub mod WriteLaws
+pub mod FlushLaws

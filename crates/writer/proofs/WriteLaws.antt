@@ -1,11 +1,12 @@
 -- Laws of writing: what a call that is done stored, and where. The calls differ only in the bits that they put.
 use mathlib.Core.Path.{_≡_, refl, subst}
 use mathlib.Core.List.{List}
-use Prim.Native.Nat.{ℕ, _+_, _*_, _/_, _%_, _^_, _<_, _≤_}
+use Prim.Native.Nat.{ℕ, _+_, _*_, _%_, _^_, _<_, _≤_}
 use native.Mathlib.Nat.{mod-lt}
 use native.Mathlib.Omega.{arith}
 use lib.IntN.{ℤ}
 use lib.ListN.{getD, length}
+use lib.Seq.{sets}
 use lib.Pow.{pow-pos}
 use borrow.Author.Tests.{le-ltb}
 use Rattle.bits.specs.declared.Order.{Order}
@@ -15,8 +16,8 @@ use Rattle.bits.proofs.FieldLaws.{field-lt}
 use Rattle.bits.specs.Signed.{pattern}
 use Rattle.sign.proofs.SignedLaws.{pattern-lt}
 use Rattle.packing.specs.declared.State.{State}
-use Rattle.packing.specs.Packing.{Belongs, put, putOut, story}
-use Rattle.packing.proofs.PutLaws.{put-length, put-written, put-belongs, put-kept-before, put-kept-after}
+use Rattle.packing.specs.Packing.{Belongs, filled, put, putOut, story}
+use Rattle.packing.proofs.PutLaws.{put-length, put-written, put-belongs}
 use Rattle.packing.proofs.PutBytesLaws.{bytes-put, bytes-put-out}
 use Rattle.packing.proofs.StoryLaws.{story-aligned, put-story}
 use Rattle.writer.specs.declared.Writer.{Writer}
@@ -47,20 +48,20 @@ new-story o s len = story-aligned o s (stateIn (newOf len .writer)) refl refl
 -- ---- calls that are done
 
 -- from the output s and the writer w, a call that answered r and left the output t stored n bits v: they stand behind all that was
--- written before, nothing of which changed, the bytes that were full and those from the next bit's on are kept, and the writer belongs again
+-- written before, nothing of which changed; the bytes that they made full are set behind those that were, and the writer belongs again
 pub record Stored (o : Order) (s : List ℕ) (w : Writer) (n v : ℕ) (t : List ℕ) (r : Wrote) : Type 0 where
   pub accepted : r .refusal ≡ done
   pub same-length : length t ≡ length s
   pub written : bitsWritten (r .writer) ≡ bitsWritten w + n
   pub belongs : Belongs (length s) (stateIn (r .writer))
   pub stands : story o t (stateIn (r .writer)) ≡ join o (bitsWritten w) n (story o s (stateIn w)) v
-  pub full : (i : ℕ) → i < w .written → getD t i 0 ≡ getD s i 0
-  pub untouched : (i : ℕ) → bitsWritten (r .writer) / 8 ≤ i → getD t i 0 ≡ getD s i 0
+  pub memory : t ≡ sets s (w .written) (filled o (stateIn w) n v)
 
 module _ (o : Order) (s : List ℕ) (w : Writer) where
   -- a call that put n bits v stored them
-  put-stored : {e n v : ℕ} {c : State} {t : List ℕ} → e ≡ done → Room (length s) w n → v < 2 ^ n → c ≡ put o (stateIn w) n v → t ≡ putOut o s (stateIn w) n v
+  pub put-stored : {e n v : ℕ} {c : State} {t : List ℕ} → e ≡ done → Room (length s) w n → v < 2 ^ n → c ≡ put o (stateIn w) n v → t ≡ putOut o s (stateIn w) n v
       → Stored o s w n v (ifDone e t s) (wrote e w c)
+  unfolding putOut
   put-stored {e} {n} {v} {c} {t} z room small p q =
       rw (z, p, q)
       (record {
@@ -69,8 +70,7 @@ module _ (o : Order) (s : List ℕ) (w : Writer) where
         written = put-written o (stateIn w) n v;
         belongs = put-belongs o (length s) (stateIn w) (room .belongs) n (room .enough) small;
         stands = put-story o s (stateIn w) (room .belongs) n (room .enough) small;
-        full = put-kept-before o (stateIn w) n v s;
-        untouched = λ i l. put-kept-after o (stateIn w) n v s i (subst (λ (k : ℕ). k / 8 ≤ i) (put-written o (stateIn w) n v) l);
+        memory = refl;
       })
 
   pub write-stored : (n v : ℕ) → writeRefusal (length s) w n v ≡ done → Stored o s w n (v % 2 ^ n) (writeOut o s w n v) (writeOf o (length s) w n v)

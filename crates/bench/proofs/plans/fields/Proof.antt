@@ -13,7 +13,7 @@ use Rattle.layout.specs.Check.{isPlan}
 use Rattle.layout.proofs.Theorems.{plan-layout, bytes-items, bytes-layout}
 use Rattle.plan.specs.Run.{fieldsOf}
 use Rattle.plan.proofs.RunLaws.{plan-few}
-use Rattle.plan.proofs.ValueLaws.{front-take}
+use Rattle.bits.proofs.StoreLaws.{front-take}
 use borrow.Author.Needs.{needs}
 use Rattle.bench.proofs.plans.fields.Statement.{statement}
 use Rattle.bench.proofs.plans.fields.Tie as tie

@@ -9,7 +9,7 @@ use Rattle.layout.proofs.LayoutLaws.{length-bytes}
 use Rattle.layout.proofs.Theorems.{plan-layout, bytes-items, bytes-layout}
 use Rattle.plan.specs.Run.{fieldsOf}
 use Rattle.plan.proofs.RunLaws.{plan-few}
-use Rattle.plan.proofs.ValueLaws.{front-take}
+use Rattle.bits.proofs.StoreLaws.{front-take}
 use borrow.Author.Needs.{needs}
 use Rattle.plan.proofs.inner.run_plan.Statement.{statement}
 use Rattle.plan.proofs.inner.run_plan.Tie as tie

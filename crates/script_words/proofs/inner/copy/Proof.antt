@@ -1,4 +1,4 @@
--- `copy` meets its contract: the place stays below the count that is within `from`, and within `into`. Assumes nothing.
+-- `copy` meets its contract: the place stays within `into`. Assumes nothing.
 use Prim.Native.Nat.{_≤_, _-_}
 use mathlib.Core.Path.{_≡_}
 use lib.ListN.{length}
@@ -7,13 +7,10 @@ use Rattle.script_words.proofs.inner.copy.Statement.{statement}
 use Rattle.script_words.proofs.inner.copy.Tie as tie
 
 abbrev Inv-loop : tie.InvT-loop
-Inv-loop from n into₀ most i₀ into i = (length into ≡ length into₀) × (i ≤ length into₀)
+Inv-loop from n into₀ i₀ into i = (length into ≡ length into₀) × (i ≤ length into₀)
 
 abbrev μ-loop : tie.MeasureT-loop
-μ-loop from n into₀ most i₀ into i = length into₀ - i
-
-within-requires : tie.Need-within-requires Inv-loop μ-loop
-within-requires c κs = search needs
+μ-loop from n into₀ i₀ into i = length into₀ - i
 
 loop-holds : tie.Need-loop-holds Inv-loop μ-loop
 loop-holds c = search needs
@@ -23,6 +20,12 @@ same-length c = search needs
 
 returns : tie.Need-returns Inv-loop μ-loop
 returns c = search needs
+
+same-length-2 : tie.Need-same-length-2 Inv-loop μ-loop
+same-length-2 c = search needs
+
+returns-2 : tie.Need-returns-2 Inv-loop μ-loop
+returns-2 c = search needs
 
 shared-slice-read-into : tie.Need-shared-slice-read-into Inv-loop μ-loop
 shared-slice-read-into c = search needs
@@ -39,11 +42,11 @@ loop-less c = search needs
 loop-again : tie.Need-loop-again Inv-loop μ-loop
 loop-again c = search needs
 
-same-length-2 : tie.Need-same-length-2 Inv-loop μ-loop
-same-length-2 c = search needs
+same-length-3 : tie.Need-same-length-3 Inv-loop μ-loop
+same-length-3 c = search needs
 
-returns-2 : tie.Need-returns-2 Inv-loop μ-loop
-returns-2 c = search needs
+returns-3 : tie.Need-returns-3 Inv-loop μ-loop
+returns-3 c = search needs
 
 pub copy-spec : {M : Type 1} → statement M
 copy-spec =
@@ -51,14 +54,15 @@ copy-spec =
     (tie.spec
     Inv-loop
     μ-loop
-    within-requires
     loop-holds
     same-length
     returns
+    same-length-2
+    returns-2
     shared-slice-read-into
     slice-write-into
     add-i
     loop-less
     loop-again
-    same-length-2
-    returns-2)
+    same-length-3
+    returns-3)

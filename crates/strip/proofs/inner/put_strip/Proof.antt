@@ -27,7 +27,7 @@ fit : (c : tie.In-loop Inv-loop μ-loop) → Fits (recordFrom (c .before .before
 fit c =
     let a = c .before .before .before .before .args in
     let l = c .before .loop in
-    underway-fits (a .numbers .now) (a .n) (a .out .now) (l .out) (l .c) (l .i) (l .at) (l .inv) (c .loop-test .taken) .0
+    underway-fits (a .numbers .now) (a .n) (a .out .now) (l .out) (l .c) (l .i) (l .at) (l .inv) (c .loop-test .taken)
 
 room : (c : tie.In-loop Inv-loop μ-loop) → bitsWritten (c .before .loop .c) + recordBits ≤ 8 * length (c .before .loop .out)
 room c =

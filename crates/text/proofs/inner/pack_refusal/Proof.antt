@@ -84,9 +84,10 @@ returns-5 c =
     let head = lines .before in
     let fine = head .before .before in
     let a = fine .before .before .before .args in
+    let e = sym (head .before .has-header .ensures) ∙ head .if3 .taken in
     c .because5 .ensures
-    ∙ bad-line (a .text .now) (a .len) (fine .before .if1 .left) (fine .if2 .left) (sym (head .before .has-header .ensures) ∙ head .if3 .taken) _ (count-is lines)
-    (good-is lines ∙ c .before .before .if4 .left)
+    ∙ bad-line (a .text .now) (a .len) (fine .before .if1 .left) (fine .if2 .left) _ e (good-is lines ∙ c .before .before .if4 .left)
+    (rw e (omega (arith, count-is lines)))
 
 because-requires-6 : tie.Need-because-requires-6
 because-requires-6 c κs = search needs

@@ -13,7 +13,8 @@ use Rattle.strip.specs.Strip.{recordsFrom, recordsOf, countOf}
 use Rattle.listing.specs.Listing.{lineOf, sizeOf}
 use Rattle.text.specs.Text.{badTail, listed}
 use Rattle.text.proofs.HeaderLaws.{headerLength, length-header, length-bad-tail}
-use Rattle.text.proofs.ListLaws.{record-fits, linesLeft, all-left, next-size, next-put, none-left, text-size, good-size, bad-size, headPut, good-put, bad-put}
+use Rattle.strip.proofs.PackedLaws.{record-fits}
+use Rattle.text.proofs.ListLaws.{linesLeft, all-left, next-size, next-put, none-left, text-size, good-size, bad-size, headPut, good-put, bad-put}
 use Rattle.text.proofs.inner.put_text.Statement.{statement}
 use Rattle.text.proofs.inner.put_text.Tie as tie
 

@@ -13,7 +13,8 @@ use Rattle.listing.specs.Listing.{sizeOf}
 use Rattle.listing.proofs.PieceLaws.{size-few}
 use Rattle.text.specs.Text.{listed}
 use Rattle.text.proofs.HeaderLaws.{headerLength, badTailLength}
-use Rattle.text.proofs.ListLaws.{record-fits, linesLeft, all-left, next-size, none-left, good-size, bad-size}
+use Rattle.strip.proofs.PackedLaws.{record-fits}
+use Rattle.text.proofs.ListLaws.{linesLeft, all-left, next-size, none-left, good-size, bad-size}
 use Rattle.text.proofs.inner.text_size.Statement.{statement}
 use Rattle.text.proofs.inner.text_size.Tie as tie
 

@@ -1,0 +1,32 @@
+-- Whole jobs: all that a program reads to all that it writes.
+use Prim.Native.Nat.{ℕ}
+use mathlib.Core.Bool.{cond, _&&_}
+use mathlib.Core.List.{List, [], _∷_, _++_}
+use lib.ListN.{length}
+use lib.Dec.{ltb}
+use Rattle.digits.specs.Digits.{ascii, newline}
+use Rattle.print.specs.Print.{wholeOf}
+use Rattle.strip.specs.Strip.{stripBytes}
+use Rattle.text.specs.Text.{header, textOf, headed, bodyOf, badLineOf}
+
+-- the most bytes that a program takes
+abbrev pub mostTaken : ℕ
+mostTaken = 65536
+
+-- the message for more
+unfoldable pub tooLongSaid : List ℕ
+tooLongSaid = ascii "too long" ++ newline ∷ []
+
+-- the message for a text whose line n is the first bad one
+unfoldable pub badLineSaid : ℕ → List ℕ
+badLineSaid n = ascii "bad line " ++ (wholeOf n ++ newline ∷ [])
+
+-- all that striplist writes: the text of the strip, or too long
+unfoldable pub listAnswer : List ℕ → List ℕ
+listAnswer s = cond (ltb mostTaken (length s)) tooLongSaid (textOf s)
+
+-- all that strippack writes: the strip of the text, the first bad line, or too long
+unfoldable pub packAnswer : List ℕ → List ℕ
+packAnswer t =
+    cond (ltb mostTaken (length t)) tooLongSaid
+    (cond (headed header t && bodyOf t .good) (stripBytes (bodyOf t .records)) (badLineSaid (badLineOf t)))

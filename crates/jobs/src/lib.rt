@@ -1,0 +1,56 @@
+// Whole jobs: all that a program reads to all that it writes.
+use bits::refusals;
+ghost use mathlib.Core.Path.{_≡_};
+ghost use lib.ListN.{length};
+ghost use Rattle.jobs.specs.Jobs.{listAnswer, packAnswer};
+ghost use Rattle.jobs.specs.Answers.{answeredOf, answeredOut};
+
+pub mod inner;
+
+// A refusal number, and the answer's length, 0 where there is none.
+pub struct Answered {
+    pub refusal: u32,
+    pub length: usize,
+}
+
+// The most bytes that a job takes.
+const MOST_TAKEN: usize = 65536;
+
+// All that striplist writes for a strip: its text, or `too long` for more than 65,536 bytes. Refusals 1 and 8, for the output alone and
+// before the first byte; what lies past the answer is untouched.
+//     let answer = jobs::list_answer(b"\x00", &mut out);
+//     expect(b"list_answer", answer.length == 40);
+pub fn list_answer(input: &[u8], out: &mut [u8]) -> Answered
+    ensures answer { λ r. ⌜ r ≡ answeredOf (listAnswer (now (input .entry))) (length (now (out .entry))) ⌝ }
+    ensures memory { λ _. ⌜ now (out .exit) ≡ answeredOut (listAnswer (now (input .entry))) (now (out .entry)) ⌝ }
+{
+    if MOST_TAKEN < input.len() {
+        return inner::say(b"too long\n", out);
+    }
+    let listed = text::list_text(input, out);
+    Answered {
+        refusal: listed.refusal,
+        length: listed.length,
+    }
+}
+
+// All that strippack writes for a text: its strip, `bad line N` for the first bad line, or `too long` for more than 65,536 bytes. Refusals
+// 1 and 8, for the output alone and before the first byte; what lies past the answer is untouched.
+//     let answer = jobs::pack_answer(b"star,date\n", &mut out);
+//     expect(b"pack_answer", answer.length == 11);
+pub fn pack_answer(input: &[u8], out: &mut [u8]) -> Answered
+    ensures answer { λ r. ⌜ r ≡ answeredOf (packAnswer (now (input .entry))) (length (now (out .entry))) ⌝ }
+    ensures memory { λ _. ⌜ now (out .exit) ≡ answeredOut (packAnswer (now (input .entry))) (now (out .entry)) ⌝ }
+{
+    if MOST_TAKEN < input.len() {
+        return inner::say(b"too long\n", out);
+    }
+    let packed = text::pack_text(input, out);
+    if packed.refusal == refusals::BAD_LINE {
+        return inner::say_bad_line(packed.line as u32, out);
+    }
+    Answered {
+        refusal: packed.refusal,
+        length: packed.length,
+    }
+}
