@@ -10,8 +10,8 @@ use lib.Seq.{sets}
 use lib.Dec.{eqb, ltb}
 use borrow.Author.Tests.{ltb-true, ltb-false, le-ltb, lt-leb, eqb-true}
 use Rattle.bits.specs.declared.Order.{Order}
-use Rattle.bits.specs.Refusals.{longest, done, orElse, firstRefusal, ifDone}
-use Rattle.bits.proofs.RefusalLaws.{passed, test-held, all-pass, if-refused, if-done}
+use Rattle.bits.specs.Refusals.{done, orElse, firstRefusal, ifDone}
+use Rattle.bits.proofs.RefusalLaws.{passed, test-held, if-refused, if-done}
 use Rattle.bits.proofs.TestLaws.{both, by-test}
 use Rattle.sign.specs.Extend.{extendRefusal, extendOf}
 use Rattle.sign.proofs.SignedLaws.{pattern-signed}
@@ -40,7 +40,7 @@ use Rattle.layout.specs.Plan.{compile, decode}
 use Rattle.layout.specs.Check.{isPlan}
 use Rattle.layout.specs.Answers.{compileOf, compileOut, checkOf}
 use Rattle.layout.proofs.LayoutLaws.{layout-of}
-use Rattle.layout.proofs.Theorems.{compiled-passes, check-exactly, compiled-left, decode-compiled, compiled-same, plan-layout, plan-length, bytes-items, items-bytes, bytes-layout}
+use Rattle.layout.proofs.Theorems.{compiled-passes, plan-accepted, check-exactly, compiled-left, decode-compiled, compiled-same, plan-layout, plan-length, bytes-items, items-bytes, bytes-layout}
 use Rattle.plan.specs.Run.{runOf, runOut}
 use Rattle.plan.proofs.Theorems as P
 use Rattle.line.specs.declared.LineRead.{LineRead}
@@ -258,10 +258,7 @@ pub plans-exactly : C.PlansExactly
 unfolding checkOf
 plans-exactly p = (
   λ e. let plan = test-held (isPlan p) _ (passed _ e .1) in (decode 0 p, plan-layout p plan .0, plan-layout p plan .1),
-  λ l.
-      let plan : isPlan p ≡ true = subst (λ (x : List ℕ). isPlan x ≡ true) (l .2) (compiled-passes (l .0) (l .1)) in
-      let short : length p ≤ longest = omega (arith, plan-length p plan) in
-      all-pass _ (rw (le-ltb longest (length p) short), rw plan),
+  λ l. plan-accepted p (subst (λ (x : List ℕ). isPlan x ≡ true) (l .2) (compiled-passes (l .0) (l .1))),
 )
 
 pub plans-decode : C.PlansDecode
