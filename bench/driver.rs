@@ -33,6 +33,8 @@ extern "C" {
     fn bench_check(p: *const u8, l: usize) -> u32;
     fn bench_list_text(s: *const u8, l: usize, o: *mut u8, ol: usize) -> u64;
     fn bench_pack_text(t: *const u8, l: usize, o: *mut u8, ol: usize) -> u64;
+    fn bench_strip_to_rows(s: *const u8, l: usize, o: *mut u8, ol: usize) -> u64;
+    fn bench_rows_to_strip(r: *const u8, l: usize, o: *mut u8, ol: usize) -> u64;
     fn bench_read_strip(s: *const u8, l: usize, v: *mut u64, n: usize) -> usize;
     fn bench_pack_strip(v: *const u64, l: usize, n: usize, o: *mut u8, ol: usize) -> usize;
     fn bench_read_bytes_big(s: *const u8, l: usize, skip: u32, b: *mut u8, bl: usize, times: usize) -> u64;
@@ -65,11 +67,14 @@ struct Bench {
     chunk: Vec<u8>,
     strip: Vec<u8>,
     text: Vec<u8>,
+    whole: Vec<u8>, // the strip of the numbers whose rows are within the limit
+    rows: Vec<u8>,  // those rows
     layout: Vec<(u8, u8)>,
     bytes: Vec<u8>, // the layout's
     plan: Vec<u8>,
     out: Vec<u8>,
     page: Vec<u8>,
+    table: Vec<u8>, // room for the rows
     buffer: Vec<u8>,
     list: Vec<u64>, // room for six a record
     results: Vec<u64>,
@@ -118,11 +123,14 @@ impl Bench {
             chunk: (0..chunks(size).0).map(|_| (next() >> 32) as u8).collect(),
             strip: Vec::new(),
             text: Vec::new(),
+            whole: Vec::new(),
+            rows: Vec::new(),
             layout: Vec::new(),
             bytes: Vec::new(),
             plan: Vec::new(),
             out: Vec::new(),
             page: Vec::new(),
+            table: Vec::new(),
             buffer: Vec::new(),
             list: Vec::new(),
             results: Vec::new(),
@@ -138,6 +146,9 @@ impl Bench {
         b.text.truncate(text_size);
         let end = b.text.iter().rposition(|&c| c == b'\n').expect("a line");
         b.text.truncate(end + 1);
+        let most = b.numbers.len().min(LIMIT / tables::ROW * 6);
+        rust_write_records(&mut b.whole, &b.numbers[..most]);
+        b.rows = b.numbers[..most].chunks_exact(6).flat_map(tables::row).collect();
         b
     }
 
@@ -158,6 +169,7 @@ impl Bench {
     fn full(&mut self) {
         self.out.resize(self.size, 0);
         self.page.resize(self.page_size(), 0);
+        self.table.resize(self.rows.len(), 0);
         self.buffer.resize(self.chunk.len(), 0);
         self.list.resize(self.numbers.len(), 0);
         self.results.resize(self.layout.len(), 0);
@@ -166,6 +178,7 @@ impl Bench {
     fn clear(&mut self) {
         self.out.clear();
         self.page.clear();
+        self.table.clear();
         self.buffer.clear();
         self.list.clear();
         self.results.clear();
@@ -566,6 +579,172 @@ fn texts_agree() {
     }
 }
 
+// ---- the Rust's rows of a FITS table: safe, one pass, the lengths and the strip's tail tested first, as ours does
+
+mod tables {
+    use bitter::{BigEndianReader, BigEndianWriter, BitReader, BitWriter};
+
+    pub const ROW: usize = 18;
+    const TOO_LONG: u32 = 1;
+    const NO_ROOM: u32 = 8;
+    const BAD_ROW: u32 = 11;
+
+    // The row of six numbers.
+    pub fn row(six: &[u64]) -> [u8; ROW] {
+        let mut row = [0; ROW];
+        row[..4].copy_from_slice(&(six[0] as i32).to_be_bytes());
+        row[4..12].copy_from_slice(&(six[1] as i64).to_be_bytes());
+        row[12] = if six[2] == 1 { b'T' } else { b'F' };
+        row[13..15].copy_from_slice(&(six[3] as i16).to_be_bytes());
+        row[15..17].copy_from_slice(&(six[4] as i16).to_be_bytes());
+        row[17] = six[5] as u8;
+        row
+    }
+
+    // The rows of a strip: their length, nothing where the tail is bad, or a refusal.
+    #[inline(never)]
+    pub fn write(strip: &[u8], out: &mut [u8]) -> Result<Option<usize>, u32> {
+        if strip.len() > super::LIMIT || out.len() > super::LIMIT {
+            return Err(TOO_LONG);
+        }
+        let records = 8 * strip.len() / 89;
+        if out.len() < ROW * records {
+            return Err(NO_ROOM);
+        }
+        let left = 8 * strip.len() % 89;
+        if left >= 8 || (left > 0 && strip[strip.len() - 1] % (1 << left) != 0) {
+            return Ok(None);
+        }
+        let mut r = BigEndianReader::new(strip);
+        for row in out.chunks_exact_mut(ROW).take(records) {
+            let mut fill = || {
+                row[..4].copy_from_slice(&(r.read_bits(20)? as i32).to_be_bytes());
+                row[4..12].copy_from_slice(&(r.read_bits(38)? as i64).to_be_bytes());
+                row[12] = if r.read_bits(1)? == 1 { b'T' } else { b'F' };
+                row[13..15].copy_from_slice(&(r.read_bits(16)? as u16).to_be_bytes());
+                row[15..17].copy_from_slice(&(r.read_bits(10)? as i16).to_be_bytes());
+                row[17] = r.read_bits(4)? as u8;
+                Some(())
+            };
+            if fill().is_none() {
+                return Ok(None);
+            }
+        }
+        Ok(Some(ROW * records))
+    }
+
+    // Packs a row that says a record.
+    #[inline(always)]
+    fn put(row: &[u8], w: &mut BigEndianWriter<Vec<u8>>) -> Option<()> {
+        let star = i32::from_be_bytes(row[..4].try_into().ok()?);
+        let date = i64::from_be_bytes(row[4..12].try_into().ok()?);
+        let magnitude = i16::from_be_bytes(row[13..15].try_into().ok()?);
+        let error = i16::from_be_bytes(row[15..17].try_into().ok()?);
+        let filter = row[17];
+        let limit = match row[12] {
+            b'T' => 1,
+            b'F' => 0,
+            _ => return None,
+        };
+        if !(0..1 << 20).contains(&star) || !(0..1 << 38).contains(&date) || !(0..1 << 10).contains(&error) || filter >= 1 << 4 {
+            return None;
+        }
+        w.write_bits(20, star as u64).ok()?;
+        w.write_bits(38, date as u64).ok()?;
+        w.write_bits(1, limit).ok()?;
+        w.write_bits(16, magnitude as u16 as u64).ok()?;
+        w.write_bits(10, error as u64).ok()?;
+        w.write_bits(4, filter as u64).ok()
+    }
+
+    // The strip of rows: its length, nothing where the last row is cut, or a refusal and the number of a bad row.
+    #[inline(never)]
+    pub fn pack(rows: &[u8], room: usize, out: &mut Vec<u8>) -> Result<Option<usize>, (u32, usize)> {
+        out.clear();
+        if rows.len() > super::LIMIT || room > super::LIMIT {
+            return Err((TOO_LONG, 0));
+        }
+        if 8 * room / 89 < rows.len() / ROW {
+            return Err((NO_ROOM, 0));
+        }
+        let mut w = BigEndianWriter::new(std::mem::take(out));
+        let bad = rows.chunks_exact(ROW).position(|row| put(row, &mut w).is_none());
+        *out = w.into_inner().expect("a Vec takes every byte");
+        if let Some(k) = bad {
+            out.clear();
+            return Err((BAD_ROW, k + 1));
+        }
+        if rows.len() % ROW != 0 {
+            out.clear();
+            return Ok(None);
+        }
+        Ok(Some(out.len()))
+    }
+}
+
+// A length, or that there is none since the tail is bad, as our loops answer it.
+fn told(made: Option<usize>) -> u64 {
+    made.map_or(0, |n| (n as u64) << 32 | 1 << 31)
+}
+
+fn rust_strip_to_rows(strip: &[u8], out: &mut [u8]) -> u64 {
+    tables::write(strip, out).map_or_else(|refusal| refusal as u64, told)
+}
+
+fn rust_rows_to_strip(rows: &[u8], room: usize, out: &mut Vec<u8>) -> u64 {
+    tables::pack(rows, room, out).map_or_else(|(refusal, row)| refusal as u64 | (row as u64) << 4, told)
+}
+
+// The same for rows: each number at the edges of its field and past them, other letters, cut rows, short strips and too little room.
+fn rows_agree() {
+    let good = tables::row(&[5, 246_052_364_817, 0, -1440i64 as u64, 12, 3]);
+    let mut all: Vec<Vec<u8>> = vec![Vec::new()];
+    // where a number stands, how many bytes it has, and those that are tried
+    let tried: [(usize, usize, &[i64]); 6] = [
+        (0, 4, &[0, 1, 0xF_FFFF, 0x10_0000, 0x100_0000, 0x7FFF_FFFF, -0x8000_0000, -1]),
+        (4, 8, &[0, 1, 0x3F_FFFF_FFFF, 0x40_0000_0000, 0x1_0000_0000_0000, i64::MAX, i64::MIN, -1]),
+        (12, 1, &[0, 1, 0x46, 0x54, 0x45, 0x47, 0x53, 0x55, 0x66, 0x74, 0x20, 0x30, 0x31, 0xFF]),
+        (13, 2, &[0, 1, 0x7FFF, -0x8000, -1]),
+        (15, 2, &[0, 1, 0x3FF, 0x400, 0x7FFF, -0x8000, -1]),
+        (17, 1, &[0, 1, 15, 16, 0x7F, 0x80, 0xFF]),
+    ];
+    for (at, n, numbers) in tried {
+        for number in numbers {
+            let mut row = good;
+            row[at..at + n].copy_from_slice(&number.to_be_bytes()[8 - n..]);
+            for text in [vec![row], vec![good, row], vec![good, row, good], vec![row, row, good]] {
+                let bytes = text.concat();
+                all.extend([0, 1, 17].map(|cut| bytes[..bytes.len() - cut].to_vec()));
+            }
+        }
+    }
+    for room in [0, 11, 12, 22, 23, 33, 34, 64] {
+        for rows in &all {
+            let (mut ours, mut theirs) = (vec![0; room], Vec::new());
+            let a = unsafe { bench_rows_to_strip(rows.as_ptr(), rows.len(), ours.as_mut_ptr(), room) };
+            let b = rust_rows_to_strip(rows, room, &mut theirs);
+            theirs.resize(room, 0);
+            assert!(a == b && ours == theirs, "packing rows into {room} bytes: {rows:?}");
+        }
+    }
+    let mut next = random(7);
+    for room in [0, 17, 18, 35, 36, 54, 72, LIMIT, LIMIT + 1] {
+        for n in 0..40 {
+            for bits in [0, 1, 8] {
+                // the last byte has so many bits that may not be zero
+                let mut strip: Vec<u8> = (0..n).map(|_| (next() >> 32) as u8).collect();
+                if let Some(last) = strip.last_mut() {
+                    *last &= ((1u32 << bits) - 1) as u8;
+                }
+                let (mut ours, mut theirs) = (vec![0; room], vec![0; room]);
+                let a = unsafe { bench_strip_to_rows(strip.as_ptr(), n, ours.as_mut_ptr(), room) };
+                let b = rust_strip_to_rows(&strip, &mut theirs);
+                assert!(a == b && ours == theirs, "rows of {strip:?} into {room} bytes");
+            }
+        }
+    }
+}
+
 // The Rust's programs.
 fn program(list: bool) -> std::io::Result<()> {
     const MOST: usize = 65536;
@@ -735,6 +914,13 @@ fn cases(b: &Bench) -> Vec<Case> {
     add("pack a text", 0.9, (packed as f64, "record"), &[], |b, n| hash(&b.out[..(n >> 32) as usize]),
         Box::new(|b| unsafe { bench_pack_text(b.text.as_ptr(), b.text.len(), b.out.as_mut_ptr(), b.out.len()) }),
         Some(Box::new(|b| { let room = b.size; rust_pack_text(&b.text, room, &mut b.out) })));
+    let rows = b.rows.len() / tables::ROW;
+    add("strip to rows", 0.75, (rows as f64, "record"), &[], |b, n| hash(&b.table[..(n >> 32) as usize]),
+        Box::new(|b| unsafe { bench_strip_to_rows(b.whole.as_ptr(), b.whole.len(), b.table.as_mut_ptr(), b.table.len()) }),
+        Some(Box::new(|b| rust_strip_to_rows(&b.whole, &mut b.table))));
+    add("rows to strip", 0.75, (rows as f64, "record"), &[], |b, n| hash(&b.out[..(n >> 32) as usize]),
+        Box::new(|b| unsafe { bench_rows_to_strip(b.rows.as_ptr(), b.rows.len(), b.out.as_mut_ptr(), b.out.len()) }),
+        Some(Box::new(|b| { let room = b.size; rust_rows_to_strip(&b.rows, room, &mut b.out) })));
     all
 }
 
@@ -772,6 +958,7 @@ pub extern "C" fn main(_: i32, _: *const *const u8) -> i32 {
         return 0;
     }
     texts_agree();
+    rows_agree();
     for c in &all {
         b.set_layout(&c.layout);
         let unit = 1e9 / c.items;

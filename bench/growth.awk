@@ -18,5 +18,5 @@ END {
         printf "%-31s %-6s %8s %8s %8s   %8s %8s %8s\n", c, item[c], plain(ns[c, 1024]), plain(ns[c, 65536]), plain(ns[c, 16777216]),
             instructions(count[c, 1024]), instructions(count[c, 65536]), instructions(count[c, 16777216])
     }
-    print "compile and check: layouts of 4, 16 and 64 fields; list a text: strips of 1 KiB, 64 KiB and 4 MiB"
+    print "compile and check: layouts of 4, 16 and 64 fields; list a text: strips of 1 KiB, 64 KiB and 4 MiB; rows: the last of 9.9 MiB"
 }

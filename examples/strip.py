@@ -1,14 +1,17 @@
 #!/usr/bin/env python3
-"""The strip format without the library: a strip as text, and a text as a strip, by the words of docs/FORMAT.md alone.
+"""The strip format without the library: a strip as text or as FITS rows, and back, by the words of docs/FORMAT.md alone.
 
     python3 examples/strip.py list < examples/night.strip
     python3 examples/strip.py pack < examples/night.txt > night.strip
+    python3 examples/strip.py rows < examples/night.strip > night.rows
+    python3 examples/strip.py packrows < night.rows > night.strip
 
-It writes what the programs striplist and strippack write, byte by byte. The status is 1 where a message stands there (`bad tail`,
-`bad line N`, `too long`), else 0. Bits are kept as text of 0 and 1, to be easy to follow rather than fast. Every number is a whole
+It writes what the programs striplist, strippack, striprows and rowspack write, byte by byte. The status is 1 where a message stands there
+(`bad tail`, `bad line N`, `bad row N`, `too long`), else 0. Bits are kept as text of 0 and 1, to be easy to follow rather than fast. Every number is a whole
 number of units: a float would spoil the last digits of a date.
 """
 import re
+import struct
 import sys
 
 MOST_BYTES = 65536
@@ -33,6 +36,37 @@ def least(name, width):
     return -(2 ** (width - 1)) if name == "magnitude" else 0
 
 
+def records_of(strip):
+    """the units of a strip's records, six a record, and whether the tail is good"""
+    bits = "".join(format(byte, "08b") for byte in strip)
+    records, place = [], 0
+    while len(bits) - place >= RECORD_BITS:
+        records.append([])
+        for name, width, _, _ in FIELDS:
+            units = int(bits[place : place + width], 2)
+            if units >= least(name, width) + 2**width:  # a number below 0, in two's complement
+                units -= 2**width
+            records[-1].append(units)
+            place += width
+    return records, len(bits) - place < 8 and "1" not in bits[place:]
+
+
+def bits_of(record):
+    """the 89 bits of a record's units; None where a number does not fit its field"""
+    bits = ""
+    for units, (name, width, _, _) in zip(record, FIELDS):
+        if not 0 <= units - least(name, width) < 2**width:
+            return None
+        bits += format(units % 2**width, "0%db" % width)
+    return bits
+
+
+def strip_of(bits):
+    """the bytes of bits, with zeros up to a byte"""
+    bits += "0" * (-len(bits) % 8)
+    return bytes(int(bits[k : k + 8], 2) for k in range(0, len(bits), 8))
+
+
 # ---- a strip as text
 
 
@@ -44,29 +78,14 @@ def spelled(units, decimals):
     return "%s%d.%0*d" % (minus, size // 10**decimals, decimals, size % 10**decimals)
 
 
-def line_of(bits):
-    """the line of a record's 89 bits"""
-    words, place = [], 0
-    for name, width, decimals, _ in FIELDS:
-        units = int(bits[place : place + width], 2)
-        if units >= least(name, width) + 2**width:  # a number below 0, in two's complement
-            units -= 2**width
-        words.append(spelled(units, decimals))
-        place += width
-    return ",".join(words)
-
-
 def list_strip(strip):
     """what striplist writes, and whether there is no message in it"""
     if len(strip) > MOST_BYTES:
         return b"too long\n", False
-    bits = "".join(format(byte, "08b") for byte in strip)
-    lines, place = [HEADER], 0
-    while len(bits) - place >= RECORD_BITS:
-        lines.append(line_of(bits[place : place + RECORD_BITS]))
-        place += RECORD_BITS
-    tail = bits[place:]
-    good = len(tail) < 8 and "1" not in tail
+    records, good = records_of(strip)
+    lines = [HEADER]
+    for record in records:
+        lines.append(",".join(spelled(units, decimals) for units, (_, _, decimals, _) in zip(record, FIELDS)))
     if not good:
         lines.append("bad tail")
     return "".join(line + "\n" for line in lines).encode(), good
@@ -75,23 +94,20 @@ def list_strip(strip):
 # ---- a text as a strip
 
 
-def bits_of(line):
+def bits_of_line(line):
     """a record's 89 bits, from its line without the newline; None where the line breaks the rules"""
     words = line.split(",")
     if len(words) != len(FIELDS):
         return None
-    bits = ""
-    for word, (name, width, _, shape) in zip(words, FIELDS):
+    record = []
+    for word, (_, _, _, shape) in zip(words, FIELDS):
         found = re.fullmatch(shape, word)
         if not found:
             return None
-        units = int("".join(found.groups()))
-        if units == 0 and word.startswith("-"):
+        record.append(int("".join(found.groups())))
+        if record[-1] == 0 and word.startswith("-"):
             return None
-        if not 0 <= units - least(name, width) < 2**width:
-            return None
-        bits += format(units % 2**width, "0%db" % width)
-    return bits
+    return bits_of(record)
 
 
 def pack_text(text):
@@ -103,18 +119,49 @@ def pack_text(text):
     unended = lines.pop()
     bits = ""
     for number, line in enumerate(lines, 1):
-        more = bits_of(line) if number > 1 else "" if line == HEADER else None
+        more = bits_of_line(line) if number > 1 else "" if line == HEADER else None
         if more is None:
             return b"bad line %d\n" % number, False
         bits += more
     if unended or not lines:
         return b"bad line %d\n" % (len(lines) + 1), False
-    bits += "0" * (-len(bits) % 8)
-    return bytes(int(bits[k : k + 8], 2) for k in range(0, len(bits), 8)), True
+    return strip_of(bits), True
+
+
+# ---- a strip as FITS rows, and back: columns J, K, L, I, I, B, big endian
+
+ROW = struct.Struct(">iqchhB")
+
+
+def rows_of(strip):
+    """what striprows writes, and whether it is rows, not a message"""
+    if len(strip) > MOST_BYTES:
+        return b"too long\n", False
+    records, good = records_of(strip)
+    if not good:
+        return b"bad tail\n", False
+    return b"".join(ROW.pack(*record[:2], b"T" if record[2] else b"F", *record[3:]) for record in records), True
+
+
+def pack_rows(rows):
+    """what rowspack writes, and whether it is a strip, not a message"""
+    if len(rows) > MOST_BYTES:
+        return b"too long\n", False
+    whole = len(rows) // ROW.size
+    bits = ""
+    for number, columns in enumerate(ROW.iter_unpack(rows[: whole * ROW.size]), 1):
+        limit = {b"T": 1, b"F": 0}.get(columns[2], -1)  # -1 fits nowhere
+        more = bits_of([*columns[:2], limit, *columns[3:]])
+        if more is None:
+            return b"bad row %d\n" % number, False
+        bits += more
+    if len(rows) % ROW.size:
+        return b"bad tail\n", False
+    return strip_of(bits), True
 
 
 def main(words):
-    jobs = {"list": list_strip, "pack": pack_text}
+    jobs = {"list": list_strip, "pack": pack_text, "rows": rows_of, "packrows": pack_rows}
     if len(words) != 1 or words[0] not in jobs:
         print(__doc__, file=sys.stderr)
         return 2

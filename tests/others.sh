@@ -3,13 +3,8 @@
 # and every answer has to be the expected one, the Rust's or the model's. Run, once both programs are built: sh tests/others.sh
 set -u
 cd "$(dirname "$0")/.." || exit 2
-work=$(mktemp -d) || exit 2
-trap 'rm -rf "$work"' EXIT
-count=0
-fail() {
-    echo "others: $1"
-    exit 1
-}
+script=others
+. tests/outputs
 
 # what a program answers to $work/in has to be its stored output
 same() { # PROGRAM HOW

@@ -3,24 +3,8 @@
 # rules of docs/FORMAT.md give, worked out by hand. Run, once both are built: sh tests/programs.sh
 set -u
 cd "$(dirname "$0")/.." || exit 2
-work=$(mktemp -d) || exit 2
-trap 'rm -rf "$work"' EXIT
-count=0
-fail() {
-    echo "programs: $1"
-    exit 1
-}
-
-# what a program writes on $work/in has to be $work/want
-same() { # PROGRAM NAME
-    tests/program "$1" <"$work/in" >"$work/out" 2>"$work/said" || {
-        cat "$work/said"
-        fail "$1 ended badly: $2"
-    }
-    [ ! -s "$work/said" ] || fail "$1 told something on standard error: $2"
-    cmp -s "$work/out" "$work/want" || fail "$1 wrote something else than it should: $2"
-    count=$((count + 1))
-}
+script=programs
+. tests/outputs
 header='star,date,limit,mag,err,filter'
 record='\000\000\136\122\167\110\204\137\114\000\141\200'
 line='5,2460523.64817,0,-1.440,0.012,3'

@@ -1,9 +1,11 @@
-"""Compares examples/strip.py with the proved programs: on every file of examples/, and on good, damaged, short and overlong strips and texts.
+"""Compares examples/strip.py with the proved programs: on every file of examples/, and on good, damaged, short and overlong strips, texts
+and rows.
 
 The cases are the same in every run: their random numbers have a fixed seed. Run by tests/python.sh."""
 import collections
 import os
 import random
+import struct
 import subprocess
 import sys
 
@@ -15,9 +17,12 @@ import strip as example
 HEADER = b"star,date,limit,mag,err,filter\n"
 WORKED = b"5,2460523.64817,0,-1.440,0.012,3\n"
 WIDTHS = (20, 38, 1, 16, 10, 4)
-PROGRAM = {"list": "striplist", "pack": "strippack"}
+PROGRAM = {"list": "striplist", "pack": "strippack", "rows": "striprows", "packrows": "rowspack"}
+FUNCTION = {"list": example.list_strip, "pack": example.pack_text, "rows": example.rows_of, "packrows": example.pack_rows}
 # what a run has to have met at least this often, so that no kind of case gets lost unnoticed
 LEAST = {"list done": 40, "list bad tail": 100, "list too long": 3, "pack done": 20, "pack bad line": 300, "pack too long": 3}
+LEAST.update({"rows done": 40, "rows bad tail": 100, "rows too long": 3})
+LEAST.update({"packrows done": 40, "packrows bad row": 100, "packrows bad tail": 20, "packrows too long": 3})
 rng = random.Random(89)
 
 
@@ -120,6 +125,40 @@ def texts():
     yield "200,000 newlines", b"\n" * 200000
 
 
+# ---- rows
+
+
+def good_row():
+    """a row that is a record, its numbers often at their edges"""
+    star, date, limit, magnitude, error, filter = (int(extreme(width), 2) for width in WIDTHS)
+    return struct.pack(">iqchhB", star, date, b"FT"[limit : limit + 1], magnitude - 32768, error, filter)
+
+
+def rows():
+    """bytes of a row changed, one by one and at random; cut rows; bad rows before cut ones"""
+    row = struct.pack(">iqchhB", 5, 246052364817, b"F", -1440, 12, 3)
+    for k in range(18):
+        for byte in (0, 1, 15, 16, 63, 64, 70, 84, 102, 116, 127, 128, 255):
+            yield "byte %d is %d" % (k, byte), row[:k] + bytes([byte]) + row[k + 1 :]
+    for n in range(37):
+        yield "the first %d bytes of two rows" % n, (row + row)[:n]
+    for n in range(40):
+        good = b"".join(good_row() for _ in range(n))
+        yield "%d rows" % n, good
+        yield "%d rows and a byte" % n, good + bytes([rng.randrange(256)])
+        if n > 0:
+            k = rng.randrange(len(good))
+            yield "%d rows, a byte changed" % n, good[:k] + bytes([rng.randrange(256)]) + good[k + 1 :]
+            yield "%d rows, a bit changed, the last cut" % n, flipped(good, rng.randrange(8 * len(good)))[:-1]
+    full = row * 3640
+    yield "3,640 rows", full
+    yield "65,536 bytes", full + row[:16]
+    yield "65,537 bytes", full + row[:17]
+    yield "3,641 rows", full + row
+    yield "200,000 bytes", bytes(200000)
+    yield "row 3,640 bad, and a cut row", full[:-1] + b"\x10" + row[:16]
+
+
 # ---- the comparison
 
 
@@ -143,7 +182,7 @@ def same(job, name, data, ours, theirs):
 def kind(job, out, good):
     if good:
         return job + " done"
-    return job + " " + next(word for word in ("bad tail", "bad line", "too long") if word.encode() in out[-16:])
+    return job + " " + next(word for word in ("bad tail", "bad line", "bad row", "too long") if word.encode() in out[-16:])
 
 
 def by_function(job, name, data, words, met):
@@ -151,7 +190,7 @@ def by_function(job, name, data, words, met):
     run = subprocess.run(words, input=data, capture_output=True)
     if run.returncode != 0 or run.stderr:
         fail("%s ended badly: %s" % (PROGRAM[job], name))
-    out, good = (example.list_strip if job == "list" else example.pack_text)(data)
+    out, good = FUNCTION[job](data)
     same(job, name, data, run.stdout, out)
     met[kind(job, out, good)] += 1
 
@@ -160,7 +199,7 @@ def by_command(job, name, data):
     """./strip beside the example as a command: what they write, and their status"""
     ours = subprocess.run(["./strip", job], input=data, capture_output=True)
     theirs = subprocess.run([sys.executable, "examples/strip.py", job], input=data, capture_output=True)
-    message = ours.stderr if job == "pack" else b""
+    message = ours.stderr if job != "list" else b""
     same(job, name, data, ours.stdout + message, theirs.stdout)
     if (ours.returncode, b"") != (theirs.returncode, theirs.stderr):
         fail("examples/strip.py %s ends with status %d, ./strip with %d: %s" % (job, theirs.returncode, ours.returncode, name))
@@ -169,12 +208,12 @@ def by_command(job, name, data):
 def main():
     os.chdir(ROOT)
     met = collections.Counter()
-    cases = {"list": list(strips()), "pack": list(texts())}
+    cases = {"list": list(strips()), "pack": list(texts()), "rows": list(strips()), "packrows": list(rows())}
     for name in sorted(os.listdir("examples")):
         with open(os.path.join("examples", name), "rb") as file:
             data = file.read()
-        cases["list"].append((name, data))
-        cases["pack"].append((name, data))
+        for job in cases:
+            cases[job].append((name, data))
     for job, program in PROGRAM.items():
         words = subprocess.run(["tests/program", "--words", program], stdout=subprocess.PIPE, text=True)
         if words.returncode != 0:
@@ -188,6 +227,10 @@ def main():
         ("pack", "an empty text", b""),
         ("list", "65,537 bytes", bytes(65537)),
         ("pack", "65,537 bytes", bytes(65537)),
+        ("rows", "the night", open("examples/night.strip", "rb").read()),
+        ("rows", "a lone zero byte", b"\0"),
+        ("packrows", "a cut row", b"\0"),
+        ("packrows", "rows of zeros", bytes(36)),
     ):
         by_command(job, name, data)
     for what, least in LEAST.items():

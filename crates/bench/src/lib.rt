@@ -129,6 +129,30 @@ pub extern "C" fn bench_pack_text(text: &[u8], out: &mut [u8]) -> u64 {
     packed.refusal as u64 | (packed.line as u64) << 4 | (packed.length as u64) << 32
 }
 
+// ---- FITS rows
+
+// 1 where a tail is good, 31 bits up.
+fn whole(tail_good: bool) -> u64 {
+    if tail_good { 0x8000_0000 } else { 0 }
+}
+
+// The refusal, whether the strip's tail is good, and the rows' length 32 bits up.
+#[no_mangle]
+pub extern "C" fn bench_strip_to_rows(strip: &[u8], out: &mut [u8]) -> u64 {
+    let made = rows::strip_to_rows(strip, out);
+    made.refusal as u64 | whole(made.tail_good) | (made.length as u64) << 32
+}
+
+// The refusal, the number of a bad row 4 bits up, whether the last row is whole, and the strip's length 32 bits up.
+#[no_mangle]
+pub extern "C" fn bench_rows_to_strip(rows: &[u8], out: &mut [u8]) -> u64 {
+    let packed = rows::rows_to_strip(rows, out);
+    packed.refusal as u64
+        | (packed.row as u64) << 4
+        | whole(packed.tail_good)
+        | (packed.length as u64) << 32
+}
+
 // ---- bytes
 
 #[no_mangle]

@@ -4,8 +4,9 @@ use Prim.Native.Nat.{ℕ, zero, suc, _+_, _-_, _*_, _/_, _%_, _^_, _<_, _≤_}
 use native.Mathlib.Nat.{add-assoc, add-zero, zero-lt-suc, add-suc, mod-lt, mod-one, mod-eq-of-lt, div-one, div-eq-of-lt, le-refl, add-sub-of-le}
 use native.Mathlib.Numerals.{add-one, one-add}
 use native.Mathlib.Omega.{arith}
-use mathlib.Core.List.{List}
-use lib.ListN.{getD}
+use mathlib.Core.List.{List, _++_}
+use lib.ListN.{getD, length, List·getD-append}
+use lib.Seq.{getD-append-add}
 use lib.Pow.{pow-pos, mod-pow-add, shr-shr, split}
 use Rattle.bits.specs.declared.Order.{Order}
 use Rattle.bits.specs.declared.Order.the-variants.{Little, Big}
@@ -119,3 +120,31 @@ field-next-byte o s at i b =
     let e : 8 * at + 8 * i ≡ 8 * (at + i) = omega arith in
     let f : 8 * (i + 1) ≡ 8 * i + 8 = omega arith in
     rw (f, field-split o s (8 * at) (8 * i) 8, e, field-byte o s (at + i) b)
+
+-- ---- lists put together
+
+module _ (o : Order) (a b : List ℕ) where
+  -- a bit of the first, and one of the second
+  bit-before : (k : ℕ) → k < 8 * length a → bit o (a ++ b) k ≡ bit o a k
+  bit-before k h = bit-same o (a ++ b) a k (List·getD-append a b 0 (k / 8) (omega arith))
+
+  bit-behind : (k : ℕ) → bit o (a ++ b) (8 * length a + k) ≡ bit o b k
+  unfolding bit position
+  bit-behind k = by-order o
+    where
+      e : (8 * length a + k) / 8 ≡ length a + k / 8
+      e = omega arith
+
+      f : (8 * length a + k) % 8 ≡ k % 8
+      f = omega arith
+
+      by-order : (o : Order) → getD (a ++ b) ((8 * length a + k) / 8) 0 / 2 ^ position o (8 * length a + k) % 2 ≡ getD b (k / 8) 0 / 2 ^ position o k % 2
+      by-order Little = rw (e, f, getD-append-add a b (k / 8) 0)
+      by-order Big = rw (e, f, getD-append-add a b (k / 8) 0)
+
+  -- a field in the first, and one in the second
+  pub field-before : (p w : ℕ) → p + w ≤ 8 * length a → field o (a ++ b) p w ≡ field o a p w
+  field-before p w h = field-same o (a ++ b) a p p w (λ k l. bit-before (p + k) (omega arith))
+
+  pub field-behind : (p w : ℕ) → field o (a ++ b) (8 * length a + p) w ≡ field o b p w
+  field-behind p w = field-same o (a ++ b) b (8 * length a + p) p w (λ k l. ap (bit o (a ++ b)) (add-assoc (8 * length a) p k) ∙ bit-behind (p + k))

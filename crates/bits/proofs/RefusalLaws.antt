@@ -6,6 +6,7 @@ use mathlib.Core.List.{List, [], _∷_}
 use lib.Dec.{eqb, ltb}
 use native.Mathlib.Omega.{arith}
 use borrow.Author.Tests.{eqb-true, eqb-false, eq-eqb, ne-eqb, ltb-false}
+use Rattle.bits.proofs.TestLaws.{by-test}
 use Rattle.bits.specs.Refusals.{done, orElse, _⟶_, firstRefusal, ifDone}
 
 module _ (a b : ℕ) where
@@ -83,6 +84,10 @@ refused-by (e ∷ f ∷ es) h = by (eqb e done) refl (refused-by (f ∷ es))
     by false p others = let z = eqb-false e done p in subst (Refused (e ∷ f ∷ es)) (sym (orElse-first e (firstRefusal (f ∷ es)) z)) (here z)
 
 -- ---- answers
+
+-- the number of an answer that has the refusal's, done or not
+pub number-of : {X : Type 0} (number : X → ℕ) (e : ℕ) (x y : X) → number x ≡ done → number y ≡ e → number (ifDone e x y) ≡ e
+number-of number e x y p q = by-test (eqb e done) (λ t. rw t (p ∙ sym (eqb-true e done t))) (λ t. rw t q)
 
 -- e is the number that the code finds for the refusal f
 module _ {e f : ℕ} (found : e ≡ f) where

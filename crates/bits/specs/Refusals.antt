@@ -49,6 +49,10 @@ tooFew = 9
 abbrev pub pastLookahead : ℕ
 pastLookahead = 10
 
+-- a row outside the record's ranges
+abbrev pub badRow : ℕ
+badRow = 11
+
 -- the longest byte slice that a call takes
 abbrev pub longest : ℕ
 longest = 16777216

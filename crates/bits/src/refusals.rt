@@ -21,5 +21,7 @@ pub const TOO_FEW: u32 = 9;
 
 pub const PAST_LOOKAHEAD: u32 = 10;
 
+pub const BAD_ROW: u32 = 11;
+
 // The longest byte slice that a call takes.
 pub const LONGEST: usize = 16_777_216;

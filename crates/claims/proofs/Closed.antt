@@ -11,7 +11,7 @@ use lib.Dec.{eqb, ltb}
 use borrow.Author.Tests.{ltb-true, ltb-false, le-ltb, lt-leb, eqb-true}
 use Rattle.bits.specs.declared.Order.{Order}
 use Rattle.bits.specs.Refusals.{done, orElse, firstRefusal, ifDone}
-use Rattle.bits.proofs.RefusalLaws.{passed, test-held, if-refused, if-done}
+use Rattle.bits.proofs.RefusalLaws.{passed, test-held, if-refused, if-done, number-of}
 use Rattle.bits.proofs.TestLaws.{both, by-test}
 use Rattle.sign.specs.Extend.{extendRefusal, extendOf}
 use Rattle.sign.proofs.SignedLaws.{pattern-signed}
@@ -57,13 +57,16 @@ use Rattle.roundtrip.specs.Mixed as Trip
 use Rattle.roundtrip.proofs.MixedTrip.{mixed-round-trip}
 use Rattle.text.specs.declared.Packed.{Packed}
 use Rattle.text.specs.Text.{bodyOf}
+use Rattle.rows.specs.Answers as F
+use Rattle.rows.proofs.AnswerLaws.{rows-number, packed-number}
+use Rattle.rows.proofs.Theorems.{there-and-back, row-says, back-and-there, refused-exactly, strip-there-and-back as rows-of-strip-back, rows-there-and-back, bad-row-exactly, bad-row-told, tails-told}
 use Rattle.text.specs.Answers as X
 use Rattle.text.proofs.AnswerLaws.{pack-tests}
 use Rattle.text.proofs.BadLineLaws.{bad-line-exactly, bad-or-good}
 use Rattle.text.proofs.Theorems.{good-text, text-packs, text-again, packed-back}
 use Rattle.jobs.specs.Answers.{answeredOf, answeredOut}
-use Rattle.jobs.proofs.ApartLaws.{too-long-apart, bad-line-apart}
-use Rattle.jobs.proofs.Theorems.{list-is, pack-is, list-room, pack-room, few-back, many-lost}
+use Rattle.jobs.proofs.ApartLaws.{too-long-apart, bad-tail-apart, bad-line-apart, bad-row-apart, rows-too-long-apart, rows-bad-tail-apart}
+use Rattle.jobs.proofs.Theorems.{list-is, pack-is, list-room, pack-room, few-back, many-lost, rows-is, pack-rows-is, rows-room, pack-rows-room, rows-back, rows-lost}
 use Rattle.host.specs.Host.{hostValue}
 use Rattle.host.proofs.HostLaws.{not-refused, done-within}
 use Rattle.claims.specs.Claims as C
@@ -73,10 +76,6 @@ use Rattle.claims.specs.Claims.{Entry, Fit, none, more, size, written, S
 
 kept : {X : Type 0} (e : ℕ) (x y : X) → (e ≡ done → ⊥) → ifDone e x y ≡ y
 kept e x y h = sym (if-refused refl x y h)
-
--- the refusal number of an answer that is one of two
-number-of : {X : Type 0} (number : X → ℕ) (e : ℕ) (x y : X) → number x ≡ done → number y ≡ e → number (ifDone e x y) ≡ e
-number-of number e x y p q = by-test (eqb e done) (λ t. rw t (p ∙ sym (eqb-true e done t))) (λ t. rw t q)
 
 pub refused-reads : C.RefusedReads
 unfolding R.bytesOf R.bytesOut R.consumeOf R.refillOf
@@ -103,7 +102,7 @@ unfolding runOf runOut
 refused-runs o s c p out h = (kept _ _ _ h, kept _ _ _ h)
 
 pub refused-outputs : C.RefusedOutputs
-unfolding compileOf compileOut S.packOf S.packOut S.stripOf S.packedOut S.listOf S.listOut writeLine writeOut X.listOf X.listOut X.packOf X.packOut answeredOf answeredOut
+unfolding compileOf compileOut S.packOf S.packOut S.stripOf S.packedOut S.listOf S.listOut writeLine writeOut X.listOf X.listOut X.packOf X.packOut F.rowOut F.rowsOut F.packedOut answeredOf answeredOut
 refused-outputs s out = (
   λ h. kept _ _ _ h,
   λ w r h. (kept _ _ _ h, kept _ _ _ h),
@@ -116,6 +115,9 @@ refused-outputs s out = (
   λ r h. kept _ _ _ h,
   λ h. kept _ _ _ h,
   λ h. kept _ _ _ h,
+  λ r h. kept _ _ _ h,
+  λ h. kept _ _ _ (λ z. h (rows-number s (length out) ∙ z)),
+  λ h. kept _ _ _ (λ z. h (packed-number s (length out) ∙ z)),
   λ h. kept _ _ _ h,
 )
 
@@ -339,16 +341,55 @@ texts-again t out rs g decimals short short-out room = text-again out g decimals
 pub texts-back : C.TextsBack
 texts-back = packed-back
 
+-- ---- FITS rows
+
+pub row-back : C.RowBack
+row-back out r z = (row-says out r z, there-and-back out r z)
+
+pub row-same : C.RowSame
+row-same = back-and-there
+
+pub rows-refused : C.RowsRefused
+rows-refused = refused-exactly
+
+pub strips-rows-back : C.StripsRowsBack
+strips-rows-back = rows-of-strip-back
+
+pub rows-strips-back : C.RowsStripsBack
+rows-strips-back = rows-there-and-back
+
+pub bad-row-is : C.BadRowExactly
+bad-row-is s len i short short-out room =
+    let (first, last) = bad-row-told s len i short short-out room in
+    let (from, to) = bad-row-exactly s i in
+    (λ told. from (first told), λ (there, bad, before). last (to there bad before))
+
+pub tails-are-told : C.TailsTold
+tails-are-told = tails-told
+
 -- ---- programs
 
 pub answers-are : C.AnswersAre
 answers-are = (list-is, pack-is)
 
+pub row-answers-are : C.RowAnswersAre
+row-answers-are = (rows-is, pack-rows-is)
+
 pub messages-apart : C.MessagesApart
-messages-apart rs fit = (too-long-apart rs, λ n small. bad-line-apart rs n fit small)
+messages-apart rs = (
+  λ fit. (too-long-apart rs, bad-tail-apart rs, λ n small. (bad-line-apart rs n fit small, bad-row-apart rs n fit small)),
+  rows-too-long-apart rs,
+  rows-bad-tail-apart rs,
+)
 
 pub answers-fit : C.AnswersFit
-answers-fit = (λ s. omega (arith, list-room s), λ t. omega (arith, pack-room t))
+answers-fit = (
+  λ s. (omega (arith, list-room s), omega (arith, rows-room s)),
+  λ t. (omega (arith, pack-room t), omega (arith, pack-rows-room t)),
+)
 
 pub answers-back : C.AnswersBack
 answers-back = (few-back, many-lost)
+
+pub row-answers-back : C.RowAnswersBack
+row-answers-back = (rows-back, rows-lost)

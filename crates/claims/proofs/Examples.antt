@@ -35,10 +35,12 @@ use Rattle.line.specs.Grammar.{spelled}
 use Rattle.listing.specs.Listing.{partsOf, lineOf}
 use Rattle.strip.specs.Bits.{bitsOf, recordAt}
 use Rattle.strip.specs.Strip.{joined, stripBytes, recordsFrom, tailGood}
+use Rattle.rows.specs.Row.{letter, columnsAt, columnsOf, bitsOfColumns, rowBytes, within, inRange, recordSaid}
+use Rattle.rows.specs.Rows.{rowsBytes, rowsWhole, recordsInRows, badFrom}
 use Rattle.text.specs.declared.Listed.{Listed}
 use Rattle.text.specs.Text.{header, badTail, listed, textOf, headed, linesIn}
 use Rattle.text.specs.Answers.{listRefusal, listOf}
-use Rattle.jobs.specs.Jobs.{tooLongSaid, badLineSaid, listAnswer, packAnswer}
+use Rattle.jobs.specs.Jobs.{tooLongSaid, badLineSaid, badRowSaid, listAnswer, packAnswer, rowsAnswer, packRowsAnswer}
 use Rattle.writer.specs.declared.Writer.{Writer}
 use Rattle.writer.specs.Writer.{oversized, writeRefusal}
 use Rattle.writer.specs.Answers as W
@@ -67,9 +69,11 @@ pub data Asked : Type 0 where
   compiles : List ℕ → List ℕ → Asked
   -- the text of a strip, listed into an output with room for so many bytes: the refusal number, the length, and the text
   lists : List ℕ → ℕ → Asked
-  -- all that striplist, and strippack, write for all that they read
+  -- all that striplist, strippack, striprows and rowspack write for all that they read
   listed-by-program : List ℕ → Asked
   packed-by-program : List ℕ → Asked
+  rows-by-program : List ℕ → Asked
+  rows-packed-by-program : List ℕ → Asked
   -- the message for too much
   said : Asked
 
@@ -98,6 +102,8 @@ told (compiles s out) =
     let r : Compiled = compileOf s (length out) in (pos (r .refusal) ∷ pos (r .length) ∷ map pos (compileOut s out))
 told (listed-by-program s) = map pos (listAnswer s)
 told (packed-by-program t) = map pos (packAnswer t)
+told (rows-by-program s) = map pos (rowsAnswer s)
+told (rows-packed-by-program t) = map pos (packRowsAnswer t)
 told said = map pos tooLongSaid
 told (lists s room) = let r : Listed = listOf s room in (pos (r .refusal) ∷ pos (r .length) ∷ map pos (textOf s))
 
@@ -154,10 +160,20 @@ table =
     gives map pos (0x00 ∷ 0x00 ∷ 0x5e ∷ 0x52 ∷ 0x77 ∷ 0x48 ∷ 0x84 ∷ 0x5f ∷ 0x4c ∷ 0x00 ∷ 0x61 ∷ 0x80 ∷ []))
     ∷ (packed-by-program (ascii "star,date,limit,mag,err,filter" ++ newline ∷ (ascii "5,2460523.64817,0,-1.440,0.012,3" ++ newline ∷ (ascii "5,2460523.64817" ++ newline ∷ [])))
     gives map pos (ascii "bad line 3" ++ newline ∷ []))
+    ∷ (rows-by-program (0x00 ∷ 0x00 ∷ 0x5e ∷ 0x52 ∷ 0x77 ∷ 0x48 ∷ 0x84 ∷ 0x5f ∷ 0x4c ∷ 0x00 ∷ 0x61 ∷ 0x80 ∷ [])
+    gives map pos (0 ∷ 0 ∷ 0 ∷ 5 ∷ 0 ∷ 0 ∷ 0 ∷ 0x39 ∷ 0x49 ∷ 0xdd ∷ 0x22 ∷ 0x11 ∷ 0x46 ∷ 0xfa ∷ 0x60 ∷ 0 ∷ 0x0c ∷ 3 ∷ []))
+    ∷ (rows-by-program (0 ∷ []) gives map pos (ascii "bad tail" ++ newline ∷ []))
+    -- the largest of each, but for the magnitude, which is the least
+    ∷ (rows-packed-by-program (0 ∷ 0x0f ∷ 0xff ∷ 0xff ∷ 0 ∷ 0 ∷ 0 ∷ 0x3f ∷ 0xff ∷ 0xff ∷ 0xff ∷ 0xff ∷ 0x54 ∷ 0x80 ∷ 0 ∷ 3 ∷ 0xff ∷ 0x0f ∷ [])
+    gives map pos (0xff ∷ 0xff ∷ 0xff ∷ 0xff ∷ 0xff ∷ 0xff ∷ 0xff ∷ 0xf0 ∷ 0x00 ∷ 0x1f ∷ 0xff ∷ 0x80 ∷ []))
+    -- a small letter, and a cut row behind it
+    ∷ (rows-packed-by-program (0 ∷ 0 ∷ 0 ∷ 5 ∷ 0 ∷ 0 ∷ 0 ∷ 0x39 ∷ 0x49 ∷ 0xdd ∷ 0x22 ∷ 0x11 ∷ 0x66 ∷ 0xfa ∷ 0x60 ∷ 0 ∷ 0x0c ∷ 3 ∷ 0 ∷ [])
+    gives map pos (ascii "bad row 1" ++ newline ∷ []))
+    ∷ (rows-packed-by-program (0 ∷ []) gives map pos (ascii "bad tail" ++ newline ∷ []))
     ∷ (said gives map pos (ascii "too long" ++ newline ∷ []))
     ∷ []
 
 -- every example of the table is answered as expected
 pub table-holds : map (λ (e : Example). told (e .asked)) table ≡ map (λ (e : Example). e .expected) table
-unfolding told listAnswer packAnswer tooLongSaid badLineSaid headed linesIn stripBytes joined bitsOf fits sixAt dateAt thousandthsAt complement magnitudeAt closed wholeAt decimalsAt run after valueFrom unitsOf pattern readings writings ascii digitsOf placesIn fixedOf spelled partsOf lineOf recordAt recordsFrom tailGood header badTail listed listRefusal listOf itemsOf goodItems isLayout takes refilled compileRefusal compileOf compileOut oversized writeRefusal writeOf writeOut flushOf flushOut W.newOf P.belongs P.stateRefusal bytesOf put putOut first rest extendRefusal extendOf signed newOf readRefusal readOf startOf remainderOf partialOf cursorRefusal bitsLeft cursorAt orElse firstRefusal stateRefusal belongs registerOf afterRead position bit join field held
+unfolding told listAnswer packAnswer rowsAnswer packRowsAnswer tooLongSaid badLineSaid badRowSaid letter columnsAt columnsOf bitsOfColumns rowBytes within inRange recordSaid rowsBytes rowsWhole recordsInRows badFrom headed linesIn stripBytes joined bitsOf fits sixAt dateAt thousandthsAt complement magnitudeAt closed wholeAt decimalsAt run after valueFrom unitsOf pattern readings writings ascii digitsOf placesIn fixedOf spelled partsOf lineOf recordAt recordsFrom tailGood header badTail listed listRefusal listOf itemsOf goodItems isLayout takes refilled compileRefusal compileOf compileOut oversized writeRefusal writeOf writeOut flushOf flushOut W.newOf P.belongs P.stateRefusal bytesOf put putOut first rest extendRefusal extendOf signed newOf readRefusal readOf startOf remainderOf partialOf cursorRefusal bitsLeft cursorAt orElse firstRefusal stateRefusal belongs registerOf afterRead position bit join field held
 table-holds = refl

@@ -1,9 +1,9 @@
 -- What is promised, in one place: each name is one sentence over the definitions that the contracts cite, and proofs/Closed.antt closes it.
 -- That each function answers by its definition, never traps and always returns is what its own contract says (src/ of its crate).
-use Prim.Native.Nat.{ℕ, _+_, _-_, _*_, _/_, _%_, _^_, _<_, _≤_}
+use Prim.Native.Nat.{ℕ, suc, _+_, _-_, _*_, _/_, _%_, _^_, _<_, _≤_}
 use mathlib.Core.Path.{_≡_}
 use mathlib.Core.Logic.{_↔_}
-use mathlib.Core.Bool.{true}
+use mathlib.Core.Bool.{true, false}
 use mathlib.Core.List.{List, [], _∷_, map}
 use lib.IntN.{ℤ}
 use lib.ListN.{length, take, drop, getD}
@@ -11,7 +11,7 @@ use lib.Seq.{sets}
 use lib.Ieee.{binary32, binary64, nanBits}
 use Rattle.bits.specs.declared.Order.{Order}
 use Rattle.bits.specs.declared.Order.the-variants.{Big}
-use Rattle.bits.specs.Refusals.{longest, done, badPlan, badLine, tooFew}
+use Rattle.bits.specs.Refusals.{longest, done, badPlan, badLine, tooFew, badRow}
 use Rattle.bits.specs.Field.{field, join}
 use Rattle.bits.specs.Signed.{signed, pattern}
 use Rattle.packing.specs.Packing.{filled, story}
@@ -49,11 +49,14 @@ use Rattle.strip.specs.Bits.{bitsOf as recordBitsOf, recordAt}
 use Rattle.strip.specs.Strip.{recordsIn, allFit, stripLength, stripBytes, countOf, recordsOf, tailGood}
 use Rattle.strip.specs.Answers as S
 use Rattle.strip.specs.Calls.{packEach, readTimes}
+use Rattle.rows.specs.Row.{columnsAt, columnsOf, rowBytes, inRange, rowLength, rowBits}
+use Rattle.rows.specs.Rows.{rowsBytes, rowCount, rowsWhole, recordsOfRows}
+use Rattle.rows.specs.Answers as F
 use Rattle.text.specs.declared.Packed.{Packed}
-use Rattle.text.specs.Text.{textOf}
+use Rattle.text.specs.Text.{textOf, badTail}
 use Rattle.text.specs.Grammar.{AllFive, FirstBad, GoodText}
 use Rattle.text.specs.Answers as X
-use Rattle.jobs.specs.Jobs.{tooLongSaid, badLineSaid, listAnswer, packAnswer}
+use Rattle.jobs.specs.Jobs.{tooLongSaid, badLineSaid, badRowSaid, listAnswer, packAnswer, rowsAnswer, packRowsAnswer}
 use Rattle.jobs.specs.Answers.{answeredOf, answeredOut}
 use Rattle.host.specs.Host.{orderOf, hostRefusal, hostValue}
 
@@ -77,7 +80,7 @@ RefusedWrites =
     × ((bs : List ℕ) → (W.bytesOf o (length s) w bs .refusal ≡ done → ⊥) → (W.bytesOf o (length s) w bs .writer ≡ w) × (W.bytesOut o s w bs ≡ s))
     × ((W.flushOf o (length s) w .refusal ≡ done → ⊥) → (W.flushOf o (length s) w .writer ≡ w) × (W.flushOut o s w ≡ s))
 
--- by a plan, a compiler, a list, a record, a line, a text or a job's answer s
+-- by a plan, a compiler, a list, a record, a line, a text, rows or a job's answer s
 abbrev pub RefusedRuns : Type 0
 RefusedRuns =
     (o : Order) (s : List ℕ) (c : Cursor) (p out : List ℕ) → (runOf o s c p (length out) .refusal ≡ done → ⊥)
@@ -93,6 +96,9 @@ RefusedOutputs =
     × ((r : Record) → (writeLine r (length out) .refusal ≡ done → ⊥) → writeOut r out ≡ out)
     × ((X.listOf s (length out) .refusal ≡ done → ⊥) → X.listOut s out ≡ out)
     × ((X.packOf s (length out) .refusal ≡ done → ⊥) → X.packOut s out ≡ out)
+    × ((r : Record) → (F.rowRefusal (length out) r ≡ done → ⊥) → F.rowOut out r ≡ out)
+    × ((F.rowsOf s (length out) .refusal ≡ done → ⊥) → F.rowsOut s out ≡ out)
+    × ((F.packedOf s (length out) .refusal ≡ done → ⊥) → F.packedOut s out ≡ out)
     × ((answeredOf s (length out) .refusal ≡ done → ⊥) → answeredOut s out ≡ out)
 
 -- on a borrowed cursor: r is answered and d left where it stands
@@ -406,7 +412,58 @@ TextsBack =
     (s out : List ℕ) → ((i : ℕ) → getD s i 0 < 256) → tailGood s ≡ true → length (textOf s) ≤ longest → length out ≤ longest → length s ≤ length out
     → (_≡_ {A = Packed} (X.packOf (textOf s) (length out)) (record { refusal = done; length = length s; line = 0 })) × (X.packOut (textOf s) out ≡ sets out 0 s)
 
--- ---- programs: all that they write is `listAnswer` or `packAnswer` of all that they read
+-- ---- FITS rows
+
+-- a record written as a row has its numbers in the columns, and is read back
+abbrev pub RowBack : Type 0
+RowBack =
+    (out : List ℕ) (r : Record) → F.rowRefusal (length out) r ≡ done
+    → (columnsAt (F.rowOut out r) 0 ≡ columnsOf r) × (F.readOf (F.rowOut out r) ≡ record { refusal = done; found = r })
+
+-- a row that becomes a record comes back from it as the same 18 bytes
+abbrev pub RowSame : Type 0
+RowSame =
+    (s out : List ℕ) → ((i : ℕ) → getD s i 0 < 256) → F.readOf s .refusal ≡ done → length out ≤ longest → rowLength ≤ length out →
+    let r = F.readOf s .found in
+    (F.rowRefusal (length out) r ≡ done) × (take rowLength (F.rowOut out r) ≡ take rowLength s)
+
+-- a row is refused with 11 exactly if no record that fits has it
+abbrev pub RowsRefused : Type 0
+RowsRefused =
+    (s : List ℕ) → ((i : ℕ) → getD s i 0 < 256) → length s ≤ longest → rowLength ≤ length s
+    → (F.readOf s .refusal ≡ badRow) ↔ ((r : Record) → Fits r → rowBytes r ≡ take rowLength s → ⊥)
+
+-- the rows of a strip with a good tail, packed, are the strip itself, byte for byte
+abbrev pub StripsRowsBack : Type 0
+StripsRowsBack =
+    (s out₁ out₂ : List ℕ) → ((i : ℕ) → getD s i 0 < 256) → tailGood s ≡ true → length s ≤ longest →
+    length out₁ ≤ longest → rowLength * countOf s ≤ length out₁ → length out₂ ≤ longest → length s ≤ length out₂ →
+    let rows = take (F.rowsOf s (length out₁) .length) (F.rowsOut s out₁) in
+    (F.packedOf rows (length out₂) ≡ record { refusal = done; row = 0; length = length s; «tail_good» = true }) × (take (length s) (F.packedOut rows out₂) ≡ s)
+
+-- and the strip of whole rows, turned into rows, is those rows
+abbrev pub RowsStripsBack : Type 0
+RowsStripsBack =
+    (s out₁ out₂ : List ℕ) → ((i : ℕ) → getD s i 0 < 256) → F.packedOf s (length out₁) .refusal ≡ done → F.packedOf s (length out₁) .«tail_good» ≡ true →
+    length out₂ ≤ longest → length s ≤ length out₂ →
+    let strip = take (F.packedOf s (length out₁) .length) (F.packedOut s out₁) in
+    (F.rowsOf strip (length out₂) ≡ record { refusal = done; length = length s; «tail_good» = true }) × (take (length s) (F.rowsOut strip out₂) ≡ s)
+
+-- rows that have room are refused by 11 with number i + 1 exactly if row i, from 0, is the first that says no record
+abbrev pub BadRowExactly : Type 0
+BadRowExactly =
+    (s : List ℕ) (len i : ℕ) → length s ≤ longest → len ≤ longest → stripLength (rowCount s) ≤ len
+    → ((F.packedOf s len .refusal ≡ badRow) × (F.packedOf s len .row ≡ suc i))
+    ↔ ((i < rowCount s) × (inRange (columnsAt s (rowBits * i)) ≡ false) × ((j : ℕ) → j < i → inRange (columnsAt s (rowBits * j)) ≡ true))
+
+-- a bad tail and a cut last row are told, not refused, and nothing is written then
+abbrev pub TailsTold : Type 0
+TailsTold =
+    (s out : List ℕ) →
+    (tailGood s ≡ false → F.rowsOf s (length out) .refusal ≡ done → (F.rowsOf s (length out) ≡ record { refusal = done; length = 0; «tail_good» = false }) × (F.rowsOut s out ≡ out))
+    × (rowsWhole s ≡ false → F.packedOf s (length out) .refusal ≡ done → (F.packedOf s (length out) ≡ record { refusal = done; row = 0; length = 0; «tail_good» = false }) × (F.packedOut s out ≡ out))
+
+-- ---- programs: all that they write is `listAnswer`, `packAnswer`, `rowsAnswer` or `packRowsAnswer` of all that they read
 
 -- beyond 65,536 bytes that is `too long`; else the text of the strip, and the strip of a text of the grammar or the first bad line of any other
 abbrev pub AnswersAre : Type 0
@@ -415,16 +472,39 @@ AnswersAre =
     × ((t : List ℕ) → (65536 < length t → packAnswer t ≡ tooLongSaid)
     × (length t ≤ 65536 → ((rs : List Record) → GoodText t rs → packAnswer t ≡ stripBytes rs) × ((n : ℕ) → FirstBad t n → packAnswer t ≡ badLineSaid n)))
 
--- no message is a strip, so that what strippack wrote tells which it is
+-- the same for rows: the rows of the strip, or bad tail; and the first bad row, else the strip of the rows, or bad tail where the last is cut
+abbrev pub RowAnswersAre : Type 0
+RowAnswersAre =
+    ((s : List ℕ) → (65536 < length s → rowsAnswer s ≡ tooLongSaid)
+    × (length s ≤ 65536 → (tailGood s ≡ true → rowsAnswer s ≡ rowsBytes (recordsOf s)) × (tailGood s ≡ false → rowsAnswer s ≡ badTail)))
+    × ((t : List ℕ) → (65536 < length t → packRowsAnswer t ≡ tooLongSaid)
+    × (length t ≤ 65536 →
+    ((i : ℕ) → i < rowCount t → inRange (columnsAt t (rowBits * i)) ≡ false → ((j : ℕ) → j < i → inRange (columnsAt t (rowBits * j)) ≡ true) → packRowsAnswer t ≡ badRowSaid (suc i))
+    × (((j : ℕ) → j < rowCount t → inRange (columnsAt t (rowBits * j)) ≡ true)
+    → (length t % rowLength ≡ 0 → packRowsAnswer t ≡ stripBytes (recordsOfRows t)) × ((length t % rowLength ≡ 0 → ⊥) → packRowsAnswer t ≡ badTail))))
+
+-- no message is a strip or a table of rows, so that what was written tells which it is
 abbrev pub MessagesApart : Type 0
-MessagesApart = (rs : List Record) → allFit rs ≡ true → (stripBytes rs ≡ tooLongSaid → ⊥) × ((n : ℕ) → n < 10 ^ 10 → stripBytes rs ≡ badLineSaid n → ⊥)
+MessagesApart =
+    (rs : List Record) →
+    (allFit rs ≡ true → (stripBytes rs ≡ tooLongSaid → ⊥) × (stripBytes rs ≡ badTail → ⊥) × ((n : ℕ) → n < 10 ^ 10 → (stripBytes rs ≡ badLineSaid n → ⊥) × (stripBytes rs ≡ badRowSaid n → ⊥)))
+    × (rowsBytes rs ≡ tooLongSaid → ⊥)
+    × (rowsBytes rs ≡ badTail → ⊥)
 
 -- every answer has room in the output that a program lends
 abbrev pub AnswersFit : Type 0
-AnswersFit = ((s : List ℕ) → length (listAnswer s) ≤ 262144) × ((t : List ℕ) → length (packAnswer t) ≤ 65536)
+AnswersFit =
+    ((s : List ℕ) → (length (listAnswer s) ≤ 262144) × (length (rowsAnswer s) ≤ 131072))
+    × ((t : List ℕ) → (length (packAnswer t) ≤ 65536) × (length (packRowsAnswer t) ≤ 65536))
 
 -- strips of up to 1,597 records with a good tail always go to text and back; one of 1,598 does not
 abbrev pub AnswersBack : Type 0
 AnswersBack =
     ((s : List ℕ) → ((i : ℕ) → getD s i 0 < 256) → tailGood s ≡ true → countOf s ≤ 1597 → packAnswer (listAnswer s) ≡ s)
     × ((s : List ℕ) × (countOf s ≡ 1598) × (tailGood s ≡ true) × (packAnswer (listAnswer s) ≡ tooLongSaid))
+
+-- and strips of up to 3,640 records to rows and back; one of 3,641 does not
+abbrev pub RowAnswersBack : Type 0
+RowAnswersBack =
+    ((s : List ℕ) → ((i : ℕ) → getD s i 0 < 256) → tailGood s ≡ true → countOf s ≤ 3640 → packRowsAnswer (rowsAnswer s) ≡ s)
+    × ((s : List ℕ) × (countOf s ≡ 3641) × (tailGood s ≡ true) × (packRowsAnswer (rowsAnswer s) ≡ tooLongSaid))

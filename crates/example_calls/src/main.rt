@@ -26,6 +26,7 @@ fn main() {
     layouts();
     records();
     lists();
+    tables();
     lines();
     texts();
     whole_jobs();
@@ -380,6 +381,25 @@ fn lists() {
     expect(b"read_strip", read.tail_good);
 }
 
+fn tables() {
+    let mut table = [0u8; 18];
+    let mut strip = *b"\x00\x00\x5e\x52\x77\x48\x84\x5f\x4c\x00\x61\x80";
+    let found = estimate();
+
+    let number = rows::write_row(found, &mut table);
+    expect(b"write_row", number == 0);
+
+    let read = rows::read_row(&table);
+    let found = read.found;
+    expect(b"read_row", found.magnitude == -1440);
+
+    let turned = rows::strip_to_rows(&strip, &mut table);
+    expect(b"strip_to_rows", turned.length == 18);
+
+    let packed = rows::rows_to_strip(&table, &mut strip);
+    expect(b"rows_to_strip", packed.length == 12);
+}
+
 fn lines() {
     let mut out = [0u8; 41];
     let found = estimate();
@@ -410,6 +430,12 @@ fn whole_jobs() {
 
     let answer = jobs::pack_answer(b"star,date\n", &mut out);
     expect(b"pack_answer", answer.length == 11);
+
+    let answer = jobs::rows_answer(b"\x00", &mut out);
+    expect(b"rows_answer", answer.length == 9);
+
+    let answer = jobs::pack_rows_answer(b"star", &mut out);
+    expect(b"pack_rows_answer", answer.length == 9);
 }
 
 fn hosts() {

@@ -1,14 +1,14 @@
 -- Laws of answers: what refuses them, and what an output with room holds.
 use Prim.Native.Nat.{ℕ, _<_, _≤_}
 use mathlib.Core.Path.{_≡_, refl, sym, ap, ap₂, _∙_}
-use mathlib.Core.Bool.{false}
+use mathlib.Core.Bool.{Bool, true, false, cond}
 use mathlib.Core.List.{List}
 use lib.ListN.{length, take}
 use lib.Seq.{sets, length-sets}
-use lib.Dec.{ltb}
+use lib.Dec.{eqb, ltb}
 use native.Mathlib.Omega.{arith}
-use borrow.Author.Tests.{lt-ltb, le-ltb}
-use Rattle.bits.specs.Refusals.{longest, done, tooLong, noRoom, orElse, firstRefusal}
+use borrow.Author.Tests.{lt-ltb, le-ltb, eqb-true}
+use Rattle.bits.specs.Refusals.{longest, done, tooLong, noRoom, orElse, firstRefusal, ifDone}
 use Rattle.bits.proofs.StoreLaws.{front-take}
 use Rattle.text.specs.declared.Listed.{Listed}
 use Rattle.text.specs.Text.{textOf}
@@ -51,6 +51,18 @@ module _ (x out : List ℕ) where
         let put : last ≡ sets out 0 x = f ∙ sym made in
         let l : length last ≡ length out = ap length put ∙ length-sets out 0 x in
         (omega arith, ap₂ (λ (k : ℕ) (u : List ℕ). take k u) n put ∙ front-take x out h)
+
+-- a call that gives x where the refusals of x are none, and else the refusal alone, does the job
+pub done-alike : {A : Type 0} (told : A → Answered) (out : List ℕ) {x made last : List ℕ} {e : ℕ} {a b r : A}
+    → e ≡ answerRefusal x (length out) → made ≡ x → told a ≡ answered done (length made) → told b ≡ answered e 0
+    → r ≡ ifDone e a b → last ≡ ifDone e (sets out 0 made) out → Done x out (told r) last
+unfolding answeredOf answeredOut
+done-alike told out {x} {made} {last} {e} {a} {b} {r} p same da db er el =
+    rw (sym p, sym same) (ap told er ∙ by (eqb e done) refl, el)
+  where
+    by : (t : Bool) → eqb e done ≡ t → told (cond t a b) ≡ answered e (cond t (length made) 0)
+    by true z = da ∙ ap (λ (k : ℕ). answered k (length made)) (sym (eqb-true e done z))
+    by false z = db
 
 -- ---- the list job
 

@@ -1,16 +1,16 @@
--- Laws of messages: bytes copied to the front of an output, and `bad line N` put together.
+-- Laws of messages: bytes copied to the front of an output, and words with a number put together.
 use Prim.Native.Nat.{ℕ, _+_, _^_, _<_, _≤_}
 use mathlib.Core.Path.{_≡_, refl, sym, ap, _∙_}
 use mathlib.Core.List.{List, [], _∷_, _++_}
 use lib.ListN.{length, take, drop, length-append}
-use lib.Seq.{sets, sets-eq, take-length, take-at}
+use lib.Seq.{sets, sets-eq, take-length, take-at, take-append-seam}
 use native.Mathlib.Omega.{arith}
 use Rattle.bits.proofs.StoreLaws.{front}
 use Rattle.digits.specs.Digits.{ascii, newline}
 use Rattle.print.specs.Print.{places, wholeOf}
 use Rattle.print.proofs.DigitLaws.{places-few}
 use Rattle.print.proofs.StoreLaws.{part-size}
-use Rattle.jobs.specs.Jobs.{tooLongSaid, badLineSaid}
+use Rattle.jobs.specs.Jobs.{tooLongSaid, badLineSaid, badRowSaid}
 
 -- ---- the bytes
 
@@ -21,12 +21,23 @@ pub too-long-is : tooLongSaid ≡ tooLongBytes
 unfolding tooLongSaid ascii
 too-long-is = refl
 
+-- words and a number
+abbrev pub numbered : List ℕ → ℕ → List ℕ
+numbered words n = words ++ (wholeOf n ++ newline ∷ [])
+
 abbrev pub badLineBytes : List ℕ
 badLineBytes = 98 ∷ 97 ∷ 100 ∷ 32 ∷ 108 ∷ 105 ∷ 110 ∷ 101 ∷ 32 ∷ []
 
-pub bad-line-is : (n : ℕ) → badLineSaid n ≡ badLineBytes ++ (wholeOf n ++ newline ∷ [])
+pub bad-line-is : (n : ℕ) → badLineSaid n ≡ numbered badLineBytes n
 unfolding badLineSaid ascii
 bad-line-is n = refl
+
+abbrev pub badRowBytes : List ℕ
+badRowBytes = 98 ∷ 97 ∷ 100 ∷ 32 ∷ 114 ∷ 111 ∷ 119 ∷ 32 ∷ []
+
+pub bad-row-is : (n : ℕ) → badRowSaid n ≡ numbered badRowBytes n
+unfolding badRowSaid ascii
+bad-row-is n = refl
 
 -- ---- put
 
@@ -42,20 +53,25 @@ behind-front b x l n e h k =
     let z : length (b ++ x) ≡ n = length-append b x ∙ sym k in
     ap (take n) (sets-eq x l (length b) h ∙ ap (λ (y : List ℕ). (y ++ x) ++ rest) e) ∙ take-at (b ++ x) rest n z
 
--- `bad line ` up to a place, from there a number's digits and a newline, and the place behind them
-pub bad-line-put : (n : ℕ) (l : List ℕ) {at end : ℕ} {last : List ℕ} → at ≡ length badLineBytes
-    → take (length badLineBytes) l ≡ badLineBytes → at + places n < length l
-    → last ≡ sets l at (wholeOf n ++ newline ∷ []) → end ≡ at + places n + 1 → take end last ≡ badLineSaid n
-bad-line-put n l {at} {end} {last} e b h f k =
+-- words copied to the front, behind them a number's digits and a newline, and the place behind these
+pub numbered-put : (words rest : List ℕ) (n : ℕ) {l last : List ℕ} {at end : ℕ} → at ≡ length words
+    → l ≡ take (length words) words ++ rest → at + places n < length l
+    → last ≡ sets l at (wholeOf n ++ newline ∷ []) → end ≡ at + places n + 1 → take end last ≡ numbered words n
+numbered-put words rest n {l} {last} {at} {end} e c h f k =
     let x = wholeOf n ++ newline ∷ [] in
     let p = part-size (places n) n newline in
-    ap (take end) (f ∙ ap (λ (j : ℕ). sets l j x) e) ∙ behind-front badLineBytes x l end b (omega arith) (omega arith) ∙ sym (bad-line-is n)
+    let b : take (length words) l ≡ words =
+    ap (take (length words)) (c ∙ ap (λ (y : List ℕ). y ++ rest) (take-length words)) ∙ take-append-seam words rest in
+    ap (take end) (f ∙ ap (λ (j : ℕ). sets l j x) e) ∙ behind-front words x l end b (omega arith) (omega arith)
 
--- it has at most 20 bytes
-pub bad-line-few : (n : ℕ) → n < 10 ^ 10 → length (badLineSaid n) ≤ 20
-bad-line-few n h =
-    let a = ap length (bad-line-is n) in
-    let b = length-append badLineBytes (wholeOf n ++ newline ∷ []) in
-    let c = part-size (places n) n newline in
-    let d = places-few 9 9 n h in
+-- how long it is
+pub numbered-length : (words : List ℕ) (n : ℕ) → length (numbered words n) ≡ length words + (places n + 1)
+numbered-length words n =
+    length-append words (wholeOf n ++ newline ∷ []) ∙ ap (λ (k : ℕ). length words + k) (part-size (places n) n newline)
+
+-- at most eleven bytes more than the words
+pub numbered-few : (words : List ℕ) (n : ℕ) → n < 10 ^ 10 → length (numbered words n) ≤ length words + 11
+numbered-few words n h =
+    let a = numbered-length words n in
+    let b = places-few 9 9 n h in
     omega arith

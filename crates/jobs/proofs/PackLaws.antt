@@ -17,7 +17,7 @@ use Rattle.text.specs.Answers.{packRefusal, packOf, packOut}
 use Rattle.jobs.specs.Jobs.{mostTaken, tooLongSaid, badLineSaid, packAnswer}
 use Rattle.jobs.specs.Answers.{answerRefusal, answeredOf, answeredOut}
 use Rattle.jobs.proofs.AnswerLaws.{answered, Done, out-long}
-use Rattle.jobs.proofs.MessageLaws.{bad-line-few}
+use Rattle.jobs.proofs.MessageLaws.{badLineBytes, bad-line-is, numbered-few}
 use Rattle.jobs.proofs.RoomLaws.{body-long}
 
 -- no answer is refused as a bad line is
@@ -126,8 +126,8 @@ pub pack-few : (t : List ℕ) → length t ≤ mostTaken → length (packAnswer 
 pack-few t h =
     let few = body-long t in
     let k = bad-line-small t in
-    let message = bad-line-few (badLineOf t) (omega arith) in
+    let message = numbered-few badLineBytes (badLineOf t) (omega arith) in
     let strip = length-strip (bodyOf t .records) in
     by-test (headed header t && bodyOf t .good)
     (λ g. let a = ap length (pack-good t h g) in omega arith)
-    (λ g. let a = ap length (pack-bad t h g) in omega arith)
+    (λ g. let a = ap length (pack-bad t h g ∙ bad-line-is (badLineOf t)) in omega arith)

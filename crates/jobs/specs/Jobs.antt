@@ -3,11 +3,12 @@ use Prim.Native.Nat.{ℕ}
 use mathlib.Core.Bool.{cond, _&&_}
 use mathlib.Core.List.{List, [], _∷_, _++_}
 use lib.ListN.{length}
-use lib.Dec.{ltb}
+use lib.Dec.{eqb, ltb}
 use Rattle.digits.specs.Digits.{ascii, newline}
 use Rattle.print.specs.Print.{wholeOf}
-use Rattle.strip.specs.Strip.{stripBytes}
-use Rattle.text.specs.Text.{header, textOf, headed, bodyOf, badLineOf}
+use Rattle.strip.specs.Strip.{stripBytes, recordsOf, tailGood}
+use Rattle.rows.specs.Rows.{rowsBytes, rowsWhole, recordsOfRows, firstBad}
+use Rattle.text.specs.Text.{header, badTail, textOf, headed, bodyOf, badLineOf}
 
 -- the most bytes that a program takes
 abbrev pub mostTaken : ℕ
@@ -21,6 +22,10 @@ tooLongSaid = ascii "too long" ++ newline ∷ []
 unfoldable pub badLineSaid : ℕ → List ℕ
 badLineSaid n = ascii "bad line " ++ (wholeOf n ++ newline ∷ [])
 
+-- the message for a table whose row n is the first bad one
+unfoldable pub badRowSaid : ℕ → List ℕ
+badRowSaid n = ascii "bad row " ++ (wholeOf n ++ newline ∷ [])
+
 -- all that striplist writes: the text of the strip, or too long
 unfoldable pub listAnswer : List ℕ → List ℕ
 listAnswer s = cond (ltb mostTaken (length s)) tooLongSaid (textOf s)
@@ -30,3 +35,13 @@ unfoldable pub packAnswer : List ℕ → List ℕ
 packAnswer t =
     cond (ltb mostTaken (length t)) tooLongSaid
     (cond (headed header t && bodyOf t .good) (stripBytes (bodyOf t .records)) (badLineSaid (badLineOf t)))
+
+-- all that striprows writes: the rows of the strip, bad tail, or too long
+unfoldable pub rowsAnswer : List ℕ → List ℕ
+rowsAnswer s = cond (ltb mostTaken (length s)) tooLongSaid (cond (tailGood s) (rowsBytes (recordsOf s)) badTail)
+
+-- all that rowspack writes: the strip of the rows, the first bad row, bad tail where the last row is cut, or too long
+unfoldable pub packRowsAnswer : List ℕ → List ℕ
+packRowsAnswer t =
+    cond (ltb mostTaken (length t)) tooLongSaid
+    (cond (eqb (firstBad t) 0) (cond (rowsWhole t) (stripBytes (recordsOfRows t)) badTail) (badRowSaid (firstBad t)))

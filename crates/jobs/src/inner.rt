@@ -2,8 +2,11 @@
 use crate::Answered;
 use bits::refusals;
 ghost use mathlib.Core.Path.{_≡_};
+ghost use mathlib.Core.List.{[], _∷_, _++_};
+ghost use Prim.Native.Nat.{_≤_};
 ghost use lib.ListN.{length};
-ghost use Rattle.jobs.specs.Jobs.{badLineSaid};
+ghost use Rattle.digits.specs.Digits.{newline};
+ghost use Rattle.print.specs.Print.{wholeOf};
 ghost use Rattle.jobs.specs.Answers.{answeredOf, answeredOut};
 
 // Answers a message.
@@ -29,13 +32,14 @@ pub fn say(message: &[u8], out: &mut [u8]) -> Answered
     }
 }
 
-// Answers `bad line N`.
-pub fn say_bad_line(line: u32, out: &mut [u8]) -> Answered
-    ensures answer { λ r. ⌜ r ≡ answeredOf (badLineSaid line) (length (now (out .entry))) ⌝ }
-    ensures memory { λ _. ⌜ now (out .exit) ≡ answeredOut (badLineSaid line) (now (out .entry)) ⌝ }
+// Answers a message of some words and a number.
+pub fn say_numbered(words: &[u8], number: u32, out: &mut [u8]) -> Answered
+    requires { ⌜ length (now words) ≤ 9 ⌝ }
+    ensures answer { λ r. ⌜ r ≡ answeredOf (now (words .entry) ++ (wholeOf number ++ newline ∷ [])) (length (now (out .entry))) ⌝ }
+    ensures memory { λ _. ⌜ now (out .exit) ≡ answeredOut (now (words .entry) ++ (wholeOf number ++ newline ∷ [])) (now (out .entry)) ⌝ }
 {
     let mut message = [0u8; 20];
-    let start = bytes::copy(b"bad line ", &mut message);
-    let end = print::inner::put_whole(&mut message, start, line, b'\n');
+    let start = bytes::copy(words, &mut message);
+    let end = print::inner::put_whole(&mut message, start, number, b'\n');
     say(&message[..end], out)
 }

@@ -1,8 +1,9 @@
 // Whole jobs: all that a program reads to all that it writes.
 use bits::refusals;
+use rows::ROW_LENGTH;
 ghost use mathlib.Core.Path.{_≡_};
 ghost use lib.ListN.{length};
-ghost use Rattle.jobs.specs.Jobs.{listAnswer, packAnswer};
+ghost use Rattle.jobs.specs.Jobs.{listAnswer, packAnswer, rowsAnswer, packRowsAnswer};
 ghost use Rattle.jobs.specs.Answers.{answeredOf, answeredOut};
 
 pub mod inner;
@@ -47,10 +48,56 @@ pub fn pack_answer(input: &[u8], out: &mut [u8]) -> Answered
     }
     let packed = text::pack_text(input, out);
     if packed.refusal == refusals::BAD_LINE {
-        return inner::say_bad_line(packed.line as u32, out);
+        return inner::say_numbered(b"bad line ", packed.line as u32, out);
     }
     Answered {
         refusal: packed.refusal,
         length: packed.length,
     }
+}
+
+// All that striprows writes for a strip: its rows, `bad tail` where its tail is bad, or `too long` for more than 65,536 bytes. Refusals 1
+// and 8, for the output alone and before the first byte; what lies past the answer is untouched.
+//     let answer = jobs::rows_answer(b"\x00", &mut out);
+//     expect(b"rows_answer", answer.length == 9);
+pub fn rows_answer(input: &[u8], out: &mut [u8]) -> Answered
+    ensures answer { λ r. ⌜ r ≡ answeredOf (rowsAnswer (now (input .entry))) (length (now (out .entry))) ⌝ }
+    ensures memory { λ _. ⌜ now (out .exit) ≡ answeredOut (rowsAnswer (now (input .entry))) (now (out .entry)) ⌝ }
+{
+    if MOST_TAKEN < input.len() {
+        return inner::say(b"too long\n", out);
+    }
+    if strip::inner::tail_good(input) {
+        let rows = rows::strip_to_rows(input, out);
+        return Answered {
+            refusal: rows.refusal,
+            length: rows.length,
+        };
+    }
+    inner::say(b"bad tail\n", out)
+}
+
+// All that rowspack writes for rows: their strip, `bad row N` for the first bad row, `bad tail` where the last row is cut, or `too long`
+// for more than 65,536 bytes. Refusals 1 and 8, for the output alone and before the first byte; what lies past the answer is untouched.
+//     let answer = jobs::pack_rows_answer(b"star", &mut out);
+//     expect(b"pack_rows_answer", answer.length == 9);
+pub fn pack_rows_answer(input: &[u8], out: &mut [u8]) -> Answered
+    ensures answer { λ r. ⌜ r ≡ answeredOf (packRowsAnswer (now (input .entry))) (length (now (out .entry))) ⌝ }
+    ensures memory { λ _. ⌜ now (out .exit) ≡ answeredOut (packRowsAnswer (now (input .entry))) (now (out .entry)) ⌝ }
+{
+    if MOST_TAKEN < input.len() {
+        return inner::say(b"too long\n", out);
+    }
+    let bad = rows::inner::first_bad(input, input.len() / ROW_LENGTH);
+    if bad != 0 {
+        return inner::say_numbered(b"bad row ", bad as u32, out);
+    }
+    if input.len() % ROW_LENGTH == 0 {
+        let packed = rows::rows_to_strip(input, out);
+        return Answered {
+            refusal: packed.refusal,
+            length: packed.length,
+        };
+    }
+    inner::say(b"bad tail\n", out)
 }

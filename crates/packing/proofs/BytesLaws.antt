@@ -1,6 +1,6 @@
 -- Laws of the bytes of a number, over the order: how many they are, those of a longer number, and those of a field.
 use mathlib.Core.Path.{_≡_, refl, sym, ap, ap₂, _∙_, subst}
-use Prim.Native.Nat.{ℕ, zero, suc, _+_, _-_, _*_, _/_, _%_, _^_, _<_, _≤_}
+use Prim.Native.Nat.{ℕ, zero, suc, _+_, _-_, _*_, _^_, _<_, _≤_}
 use native.Mathlib.Nat.{add-zero, zero-add, suc-add}
 use native.Mathlib.Omega.{arith}
 use mathlib.Core.List.{List, [], _∷_, _++_, append-nil}
@@ -8,11 +8,10 @@ use lib.ListN.{getD, length, take}
 use lib.Seq.{take-at}
 use lib.Pow.{pow-pos}
 use Rattle.bits.specs.declared.Order.{Order}
-use Rattle.bits.specs.declared.Order.the-variants.{Little, Big}
-use Rattle.bits.specs.Field.{position, bit, join, field}
+use Rattle.bits.specs.Field.{join, field}
 use Rattle.bits.specs.Word.{first, rest}
-use Rattle.bits.proofs.JoinLaws.{join-none, join-parts, first-join, rest-join, first-lt, rest-lt, rest-none}
-use Rattle.bits.proofs.FieldLaws.{field-lt, field-split, field-same, field-byte}
+use Rattle.bits.proofs.JoinLaws.{join-none, none-join, join-parts, first-join, rest-join, first-lt, rest-lt, rest-none}
+use Rattle.bits.proofs.FieldLaws.{field-lt, field-split, field-byte, field-behind}
 use Rattle.packing.specs.Packing.{bytesOf}
 use Rattle.packing.proofs.PartLaws.{first-of-longer, rest-of-longer, rest-twice}
 
@@ -70,27 +69,12 @@ bytes-first o k {x} l h =
 
 -- ---- bytes of a field
 
--- a bit behind the first byte
-bit-behind : (o : Order) (b : ℕ) (bs : List ℕ) (k : ℕ) → bit o (b ∷ bs) (8 + k) ≡ bit o bs k
-unfolding bit position
-bit-behind o b bs k = by-order o
-  where
-    e : (8 + k) / 8 ≡ suc (k / 8)
-    e = omega arith
-
-    f : (8 + k) % 8 ≡ k % 8
-    f = omega arith
-
-    by-order : (o : Order) → getD (b ∷ bs) ((8 + k) / 8) 0 / 2 ^ position o (8 + k) % 2 ≡ getD bs (k / 8) 0 / 2 ^ position o k % 2
-    by-order Little = rw (e, f)
-    by-order Big = rw (e, f)
-
 -- the field of a list's first bytes: the first byte, and the field of the others
 pub field-cons : (o : Order) (b : ℕ) (bs : List ℕ) (n : ℕ) → b < 2 ^ 8 → field o (b ∷ bs) 0 (8 * suc n) ≡ join o 8 (8 * n) b (field o bs 0 (8 * n))
 field-cons o b bs n h =
     let e : 8 * suc n ≡ 8 + 8 * n = omega arith in
     let f : field o (b ∷ bs) (0 + 8) (8 * n) ≡ field o bs 0 (8 * n) =
-    field-same o (b ∷ bs) bs (0 + 8) 0 (8 * n) (λ k l. bit-behind o b bs k ∙ ap (bit o bs) (sym (zero-add k))) in
+    field-behind o (b ∷ []) bs 0 (8 * n) in
     ap (field o (b ∷ bs) 0) e ∙ field-split o (b ∷ bs) 0 8 (8 * n) ∙ ap₂ (join o 8 (8 * n)) (field-byte o (b ∷ bs) 0 h) f
 
 -- the bytes of the field of all bytes are the bytes
@@ -116,3 +100,16 @@ field-bytes o (suc n) {v} h =
     ∙ field-cons o (first o 8 (8 * n) v) (bytesOf o n 0 (rest o 8 (8 * n) v)) n (first-lt o 8 (8 * n) h′)
     ∙ ap (join o 8 (8 * n) (first o 8 (8 * n) v)) (field-bytes o n (rest-lt o 8 (8 * n) h′))
     ∙ join-parts o 8 (8 * n) v
+
+-- the bytes of two numbers joined, the first of whole bytes: those of the one, then those of the other
+pub bytes-two : (o : Order) (n₁ n₂ : ℕ) {v y : ℕ} → v < 2 ^ (8 * n₁) → y < 2 ^ (8 * n₂) → bytesOf o (n₁ + n₂) 0 (join o (8 * n₁) (8 * n₂) v y) ≡ bytesOf o n₁ 0 v ++ bytesOf o n₂ 0 y
+bytes-two o n₁ n₂ {v} {y} hv hy =
+    let z : 8 * n₁ + 0 ≡ 8 * n₁ = add-zero (8 * n₁) in
+    let e : 0 + 8 * n₂ ≡ 8 * n₂ + 0 = omega arith in
+    let hv′ : v < 2 ^ (8 * n₁ + 0) = subst (λ (k : ℕ). v < 2 ^ k) (sym z) hv in
+    let l : rest o (8 * n₁) 0 v < 2 ^ 0 = rest-lt o (8 * n₁) 0 hv′ in
+    let n : rest o (8 * n₁) 0 v ≡ 0 = omega arith in
+    ap (λ (k : ℕ). bytesOf o (n₁ + n₂) 0 (join o k (8 * n₂) v y)) (sym z)
+    ∙ bytes-append o n₁ 0 (8 * n₂) n₂ 0 e hv′ hy
+    ∙ ap (λ (k : ℕ). bytesOf o n₁ 0 v ++ bytesOf o n₂ 0 (join o 0 (8 * n₂) k y)) n
+    ∙ ap (λ (k : ℕ). bytesOf o n₁ 0 v ++ bytesOf o n₂ 0 k) (none-join o (8 * n₂) y)

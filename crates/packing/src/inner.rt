@@ -117,7 +117,7 @@ pub fn low_bits(v: u64, n: u32) -> u64
 }
 
 // The eight bytes of a word, stored from `at` on: one store, after a byte swap if the order is big.
-fn store_whole(order: Order, out: &mut [u8], at: usize, word: u64)
+pub fn store_whole(order: Order, out: &mut [u8], at: usize, word: u64)
     requires { ⌜ at + 8 ≤ length (now out) ⌝ }
     ensures { λ _. ⌜ now (out .exit) ≡ sets (now (out .entry)) at (bytesOf order 8 0 word) ⌝ }
 {

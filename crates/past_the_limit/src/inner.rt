@@ -3,16 +3,19 @@ use bits::Order;
 use reader::Cursor;
 use writer::Writer;
 
-// The calls that read the slice, by number: 0 to 11 the cursor's, 12 to 19 the others.
+// The calls that read the slice, by number: 0 to 11 the cursor's, 12 to 19 the others, from 20 on those of rows.
 #[no_mangle]
 pub extern "C" fn limits_read(call: u32, src: &[u8]) -> u32 {
     if call < 12 {
         return read_call(call, src);
     }
-    other_call(call, src)
+    if call < 20 {
+        return other_call(call, src);
+    }
+    row_call(call, src)
 }
 
-// The calls that write the slice, by number: 0 to 6 the writer's, 7 to 11 the others.
+// The calls that write the slice, by number: 0 to 6 the writer's, 7 to 14 the others.
 #[no_mangle]
 pub extern "C" fn limits_write(call: u32, out: &mut [u8]) -> u32 {
     if call < 7 {
@@ -74,6 +77,16 @@ fn other_call(call: u32, src: &[u8]) -> u32 {
     }
 }
 
+// A row, a strip and rows.
+fn row_call(call: u32, src: &[u8]) -> u32 {
+    let mut small = [0u8; 16];
+    match call {
+        20 => rows::read_row(src).refusal,
+        21 => rows::strip_to_rows(src, &mut small).refusal,
+        _ => rows::rows_to_strip(src, &mut small).refusal,
+    }
+}
+
 // The writer's methods, on a fresh one.
 fn write_call(call: u32, out: &mut [u8]) -> u32 {
     let w = Writer {
@@ -92,7 +105,7 @@ fn write_call(call: u32, out: &mut [u8]) -> u32 {
     }
 }
 
-// A buffer to read bytes into, a plan's, a line's, a record's and a strip's output.
+// A buffer to read bytes into, a plan's, a line's, a record's, a strip's and rows' output.
 fn fill_call(call: u32, out: &mut [u8]) -> u32 {
     let r = record::inner::no_record();
     match call {
@@ -110,9 +123,12 @@ fn fill_call(call: u32, out: &mut [u8]) -> u32 {
             };
             strip::pack_record(w, out, r).refusal
         }
-        _ => {
+        11 => {
             let numbers = [0u64; 6];
             strip::pack_strip(&numbers, 1, out).refusal
         }
+        12 => rows::write_row(r, out),
+        13 => rows::strip_to_rows(b"", out).refusal,
+        _ => rows::rows_to_strip(b"", out).refusal,
     }
 }

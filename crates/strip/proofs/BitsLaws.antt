@@ -41,17 +41,23 @@ module _ (s : List ℕ) (p : ℕ) where
       let e : p + 58 + 27 ≡ p + 85 = omega arith in
       field-rest Big s (p + 58) 27 4 ∙ ap (λ (q : ℕ). field Big s q 4) e
 
--- a record's numbers, as they are stored: out of its three parts
+-- a record out of its three parts
+pub record-in :
+    (s : List ℕ) (p : ℕ) {star date rest : ℕ} → star ≡ field Big s p 20 → date ≡ field Big s (p + 20) 38 → rest ≡ field Big s (p + 58) 31 →
+    _≡_ {A = Record} (record { star = star; date = date; limit = rest / 2 ^ 30; magnitude = signed 16 (rest / 2 ^ 14 % 2 ^ 16); error = rest / 2 ^ 4 % 2 ^ 10; filter = rest % 2 ^ 4 }) (recordAt s p)
+unfolding recordAt
+record-in s p star date rest =
+    let limit = ap (λ (n : ℕ). n / 2 ^ 30) rest ∙ limit-in s p in
+    let magnitude = ap (λ (n : ℕ). signed 16 (n / 2 ^ 14 % 2 ^ 16)) rest ∙ ap (signed 16) (magnitude-in s p) in
+    let error = ap (λ (n : ℕ). n / 2 ^ 4 % 2 ^ 10) rest ∙ error-in s p in
+    let filter = ap (λ (n : ℕ). n % 2 ^ 4) rest ∙ filter-in s p in
+    λ i. record { star = star i; date = date i; limit = limit i; magnitude = magnitude i; error = error i; filter = filter i }
+
+-- its numbers, as they are stored
 pub numbers-in :
     (s : List ℕ) (p : ℕ) {star date rest : ℕ} → star ≡ field Big s p 20 → date ≡ field Big s (p + 20) 38 → rest ≡ field Big s (p + 58) 31 →
     _≡_ {A = List ℕ} (star ∷ date ∷ rest / 2 ^ 30 ∷ pattern 64 (signed 16 (rest / 2 ^ 14 % 2 ^ 16)) ∷ rest / 2 ^ 4 % 2 ^ 10 ∷ rest % 2 ^ 4 ∷ []) (numbersOf (recordAt s p))
-unfolding recordAt
-numbers-in s p star date rest =
-    let limit = ap (λ (n : ℕ). n / 2 ^ 30) rest ∙ limit-in s p in
-    let magnitude = ap (λ (n : ℕ). pattern 64 (signed 16 (n / 2 ^ 14 % 2 ^ 16))) rest ∙ ap (λ (n : ℕ). pattern 64 (signed 16 n)) (magnitude-in s p) in
-    let error = ap (λ (n : ℕ). n / 2 ^ 4 % 2 ^ 10) rest ∙ error-in s p in
-    let filter = ap (λ (n : ℕ). n % 2 ^ 4) rest ∙ filter-in s p in
-    λ i. star i ∷ date i ∷ limit i ∷ magnitude i ∷ error i ∷ filter i ∷ []
+numbers-in s p star date rest = ap numbersOf (record-in s p star date rest)
 
 -- ---- the bits of a record
 

@@ -1,4 +1,4 @@
-mod BitsLaws
+pub mod BitsLaws
 pub mod FitLaws
 mod ListLaws
 mod AnswerLaws

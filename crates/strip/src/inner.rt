@@ -65,7 +65,7 @@ fn put_six(
 }
 
 // The 16 bits of a magnitude.
-fn magnitude_bits(magnitude: i16) -> u64
+pub fn magnitude_bits(magnitude: i16) -> u64
     ensures { λ r. ⌜ r ≡ pattern 16 magnitude ⌝ }
 {
     record::inner::magnitude_number(magnitude) % 0x1_0000

@@ -6,7 +6,7 @@ use mathlib.Core.List.{List}
 use lib.ListN.{length}
 use native.Mathlib.Omega.{arith}
 use Rattle.jobs.specs.Answers.{answeredOf, answeredOut}
-use Rattle.jobs.proofs.MessageLaws.{too-long-is}
+use Rattle.jobs.proofs.MessageLaws.{too-long-is, bad-line-is}
 use Rattle.jobs.proofs.PackLaws.{pack-long, pack-said, pack-done, line-few}
 use borrow.Author.Needs.{needs}
 use Rattle.jobs.proofs.pack_answer.Statement.{statement}
@@ -31,31 +31,35 @@ returns c =
 pack-text-requires : tie.Need-pack-text-requires
 pack-text-requires c κs = search needs
 
-cast-say-bad-line : tie.Need-cast-say-bad-line
-cast-say-bad-line c =
-    let left = c .before .before .before .before .before .before .before in
+slice-aggregate-say-numbered : tie.Need-slice-aggregate-say-numbered
+slice-aggregate-say-numbered c = search needs
+
+cast-say-numbered : tie.Need-cast-say-numbered
+cast-say-numbered c =
+    let left = c .before .before .before .before .before .before .before .before in
     let a = left .before .before .before .args in
     let short = left .if1 .left in
-    let few = line-few (a .input .now) (length (a .out .now)) (c .before .before .before .before .before .pack-text .ensures .0) in
+    let few = line-few (a .input .now) (length (a .out .now)) (c .before .before .before .before .before .before .pack-text .ensures .0) in
     omega arith
 
-say-bad-line-requires : tie.Need-say-bad-line-requires
-say-bad-line-requires c κs = search needs
+say-numbered-requires : tie.Need-say-numbered-requires
+say-numbered-requires c κs = search needs
 
 same-length-2 : tie.Need-same-length-2
 same-length-2 c = search needs
 
 returns-2 : tie.Need-returns-2
 returns-2 c =
-    let said = c .before .before .say-bad-line in
-    let packed = c .before .before .before .before .before .before .before .before .before .pack-text in
-    let left = c .before .before .before .before .before .before .before .before .before .before .before in
+    let said = c .before .before .say-numbered in
+    let packed = c .before .before .before .before .before .before .before .before .before .before .pack-text in
+    let left = c .before .before .before .before .before .before .before .before .before .before .before .before in
     let a = left .before .before .before .args in
-    let (answer, same) =
-    pack-said (a .input .now) (left .if1 .left) (a .out .now) (packed .ensures .0) (c .before .before .before .before .before .if2 .taken) in
+    let bad = c .before .before .before .before .before .before .if2 .taken in
+    let (answer, same) = pack-said (a .input .now) (left .if1 .left) (a .out .now) (packed .ensures .0) bad in
+    let message = answer ∙ bad-line-is _ in
     let untouched = packed .ensures .1 ∙ same in (
-      said .ensures .0 ∙ ap₂ (λ (x o : List ℕ). answeredOf x (length o)) (sym answer) untouched,
-      said .ensures .1 ∙ ap₂ answeredOut (sym answer) untouched,
+      said .ensures .0 ∙ ap₂ (λ (x o : List ℕ). answeredOf x (length o)) (sym message) untouched,
+      said .ensures .1 ∙ ap₂ answeredOut (sym message) untouched,
     )
 
 same-length-3 : tie.Need-same-length-3
@@ -77,8 +81,9 @@ pack-answer-spec =
     same-length
     returns
     pack-text-requires
-    cast-say-bad-line
-    say-bad-line-requires
+    slice-aggregate-say-numbered
+    cast-say-numbered
+    say-numbered-requires
     same-length-2
     returns-2
     same-length-3
