@@ -67,6 +67,7 @@ struct Bench {
     chunk: Vec<u8>,
     strip: Vec<u8>,
     text: Vec<u8>,
+    camera: Vec<u8>, // a text with eight date decimals, as cameras give them
     whole: Vec<u8>, // the strip of the numbers whose rows are within the limit
     rows: Vec<u8>,  // those rows
     layout: Vec<(u8, u8)>,
@@ -123,6 +124,7 @@ impl Bench {
             chunk: (0..chunks(size).0).map(|_| (next() >> 32) as u8).collect(),
             strip: Vec::new(),
             text: Vec::new(),
+            camera: Vec::new(),
             whole: Vec::new(),
             rows: Vec::new(),
             layout: Vec::new(),
@@ -143,9 +145,12 @@ impl Bench {
         let mut all = Vec::new();
         rust_write_records(&mut all, &b.numbers[..6 * records(text_size / 2)]);
         texts::write(&all, &mut b.text);
-        b.text.truncate(text_size);
-        let end = b.text.iter().rposition(|&c| c == b'\n').expect("a line");
-        b.text.truncate(end + 1);
+        b.camera = texts::longer(&b.text, next);
+        for text in [&mut b.text, &mut b.camera] {
+            text.truncate(text_size);
+            let end = text.iter().rposition(|&c| c == b'\n').expect("a line");
+            text.truncate(end + 1);
+        }
         let most = b.numbers.len().min(LIMIT / tables::ROW * 6);
         rust_write_records(&mut b.whole, &b.numbers[..most]);
         b.rows = b.numbers[..most].chunks_exact(6).flat_map(tables::row).collect();
@@ -362,6 +367,20 @@ mod texts {
         }
     }
 
+    // A text with three more decimals behind each date.
+    pub fn longer(text: &[u8], mut next: impl FnMut() -> u64) -> Vec<u8> {
+        let mut commas = 0;
+        let mut out = Vec::new();
+        for &c in text {
+            commas = if c == b'\n' { 0 } else { commas + (c == b',') as u32 };
+            if c == b',' && commas == 2 && out.len() > HEADER.len() {
+                out.extend(format!("{:03}", next() % 1000).bytes());
+            }
+            out.push(c);
+        }
+        out
+    }
+
     // The text of a strip.
     pub fn write(strip: &[u8], out: &mut Vec<u8>) -> Option<()> {
         out.extend_from_slice(HEADER);
@@ -455,7 +474,9 @@ mod texts {
         if !(5..=12).contains(&n) || s.get(n) != Some(&b',') {
             return None;
         }
-        let units = if n == 5 { value } else { value / 10u64.pow(n as u32 - 5) };
+        // to the nearest unit, halves upward
+        let nearest = |unit: u64| (value + unit / 2) / unit;
+        let units = if n == 5 { value } else { nearest(10u64.pow(n as u32 - 5)) };
         Some((100_000 * days + units, &s[n + 1..]))
     }
 
@@ -545,13 +566,16 @@ fn texts_agree() {
         "1,1.00000,0,1.000,-0.001,0\n", "1,1.00000,0,1.000,0.000,16\n", "1,1.00000,0,1.000,0.000,0", "1,1.00000,0,1.000,0.000,0\r\n",
         "+1,1.00000,0,1.000,0.000,0\n", "1,1.00000,0,1.000,0.000,0,\n", "\n", "100000000000000000000000001,1.00000,0,1.000,0.000,0\n",
         "1,100000000000000000000.00000,0,1.000,0.000,0\n", "18446744073709551617,1.00000,0,1.000,0.000,0\n",
+        "1,2748779.069435,0,1.000,0.000,0\n", "1,2748779.069439999999,0,1.000,0.000,0\n", "1,100000000000000000000.999999,0,1.000,0.000,0\n",
     ];
     let fine = [
-        "1048575,2748779.069439999999,1,-32.768,1.023,15\n", "0,0.00000,0,32.767,0.000,0\n", "1,1.000009,0,0.000,0.000,0\n",
-        "1,0.123456789012,0,-0.001,0.001,1\n", "",
+        "1048575,2748779.069434999999,1,-32.768,1.023,15\n", "0,0.00000,0,32.767,0.000,0\n", "1,1.000009,0,0.000,0.000,0\n",
+        "1,0.123456789012,0,-0.001,0.001,1\n", "1,0.999995,0,0.000,0.000,0\n", "1,2460523.999994999999,0,0.000,0.000,0\n", "",
     ];
+    // dates of 6 to 12 decimals on both sides of a half
+    let halves = (6..=12).flat_map(|n| [("4", "9"), ("5", "0"), ("0", "0"), ("9", "9")].map(|(six, more)| format!("1,9.99999{six}{},0,0.000,0.000,0\n", more.repeat(n - 6))));
     let mut all: Vec<String> = vec![String::new(), header[..30].to_string(), header.to_uppercase()];
-    for line in bad.iter().chain(&fine) {
+    for line in bad.iter().chain(&fine).map(|line| line.to_string()).chain(halves) {
         all.push(format!("{header}{line}"));
         all.push(format!("{header}{good}{line}"));
         all.push(format!("{header}{good}{line}{good}"));
@@ -914,6 +938,10 @@ fn cases(b: &Bench) -> Vec<Case> {
     add("pack a text", 0.9, (packed as f64, "record"), &[], |b, n| hash(&b.out[..(n >> 32) as usize]),
         Box::new(|b| unsafe { bench_pack_text(b.text.as_ptr(), b.text.len(), b.out.as_mut_ptr(), b.out.len()) }),
         Some(Box::new(|b| { let room = b.size; rust_pack_text(&b.text, room, &mut b.out) })));
+    let longer = b.camera.iter().filter(|&&c| c == b'\n').count() - 1;
+    add("pack a text, 8 decimals", 0.9, (longer as f64, "record"), &[], |b, n| hash(&b.out[..(n >> 32) as usize]),
+        Box::new(|b| unsafe { bench_pack_text(b.camera.as_ptr(), b.camera.len(), b.out.as_mut_ptr(), b.out.len()) }),
+        Some(Box::new(|b| { let room = b.size; rust_pack_text(&b.camera, room, &mut b.out) })));
     let rows = b.rows.len() / tables::ROW;
     add("strip to rows", 0.75, (rows as f64, "record"), &[], |b, n| hash(&b.table[..(n >> 32) as usize]),
         Box::new(|b| unsafe { bench_strip_to_rows(b.whole.as_ptr(), b.whole.len(), b.table.as_mut_ptr(), b.table.len()) }),

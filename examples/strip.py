@@ -19,10 +19,10 @@ HEADER = "star,date,limit,mag,err,filter"
 
 # No field holds a whole part of eight digits.
 WHOLE = "(0|[1-9][0-9]{0,6})"
-# The fields in their order: name, bits, decimals of a unit, and the number as text, its groups being the digits that count.
+# The fields in their order: name, bits, decimals of a unit, and the number as text, its groups being the sign and the digits.
 FIELDS = (
     ("star", 20, 0, WHOLE),
-    ("date", 38, 5, WHOLE + r"\.([0-9]{5})[0-9]{0,7}"),
+    ("date", 38, 5, WHOLE + r"\.([0-9]{5,12})"),
     ("limit", 1, 0, WHOLE),
     ("magnitude", 16, 3, "(-?)" + WHOLE + r"\.([0-9]{3})"),
     ("error", 10, 3, WHOLE + r"\.([0-9]{3})"),
@@ -94,17 +94,23 @@ def list_strip(strip):
 # ---- a text as a strip
 
 
+def nearest(number, unit):
+    """how many units there are in a number, to the nearest, halves upward"""
+    return (2 * number + unit) // (2 * unit)
+
+
 def bits_of_line(line):
     """a record's 89 bits, from its line without the newline; None where the line breaks the rules"""
     words = line.split(",")
     if len(words) != len(FIELDS):
         return None
     record = []
-    for word, (_, _, _, shape) in zip(words, FIELDS):
+    for word, (_, _, decimals, shape) in zip(words, FIELDS):
         found = re.fullmatch(shape, word)
         if not found:
             return None
-        record.append(int("".join(found.groups())))
+        more = len(word.partition(".")[2]) - decimals  # decimals behind a unit's: only a date may have some
+        record.append(nearest(int("".join(found.groups())), 10**more))
         if record[-1] == 0 and word.startswith("-"):
             return None
     return bits_of(record)

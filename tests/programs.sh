@@ -65,8 +65,8 @@ pack 'a bad third line after a good one' "$header\n$line\n$line,\n" 'bad line 3\
 pack 'two bad lines: the first is named' "$header\nx\ny\n" 'bad line 2\n'
 pack 'binary rubbish' '\000\001\377' 'bad line 1\n'
 good 'the worked line' "$line"
-good 'twelve decimals, cut' '5,2460523.648179999999,0,-1.440,0.012,3'
-good 'six decimals, cut' '5,2460523.648179,0,-1.440,0.012,3'
+good 'six decimals, rounded downward' '5,2460523.648174,0,-1.440,0.012,3'
+good 'twelve decimals, rounded upward' '5,2460523.648165000000,0,-1.440,0.012,3'
 bad 'thirteen decimals' '5,2460523.6481700000000,0,-1.440,0.012,3'
 bad 'four decimals' '5,2460523.6481,0,-1.440,0.012,3'
 bad 'no decimals' '5,2460523,0,-1.440,0.012,3'
@@ -98,6 +98,50 @@ bad 'a star of forty digits' '1000000000000000000000000000000000000005,2460523.6
 bad 'a star that would wrap at 64 bits' '18446744073709551621,2460523.64817,0,-1.440,0.012,3'
 pack 'the largest of each' "$header\n1048575,2748779.06943,1,32.767,1.023,15\n" '\377\377\377\377\377\377\377\357\377\377\377\200'
 pack 'the least magnitude' "$header\n0,0.00000,0,-32.768,0.000,0\n" '\000\000\000\000\000\000\000\020\000\000\000\000'
+# the date is the nearest unit, halves upward: of a record of zeros but for its date, bits 20 to 57 hold the units
+rounds() { # DATE UNITS
+    printf '%s\n0,%s,0,0.000,0.000,0\n' "$header" "$1" >"$work/in"
+    {
+        printf '\000\000'
+        for byte in $(($2 >> 34)) $(($2 >> 26 & 255)) $(($2 >> 18 & 255)) $(($2 >> 10 & 255)) $(($2 >> 2 & 255)) $(($2 << 6 & 255)); do
+            printf "\\$(printf %03o "$byte")"
+        done
+        printf '\000\000\000\000'
+    } >"$work/want"
+    same strippack "the date $1"
+}
+# the sixth decimal is 4 or 5, then 9s or 0s, from six decimals to twelve
+nines='' zeros=''
+while [ ${#nines} -lt 7 ]; do
+    rounds "2460523.648174$nines" 246052364817
+    rounds "2460523.648175$zeros" 246052364818
+    rounds "2460523.999995$zeros" 246052400000
+    bad "the bound, $((6 + ${#zeros})) decimals" "5,2748779.069435$zeros,0,-1.440,0.012,3"
+    nines=9$nines zeros=0$zeros
+done
+rounds 0.000004999999 0
+rounds 0.000005 1
+rounds 0.000000000001 0
+rounds 0.648176 64818
+rounds 2460523.64816500 246052364817
+# a carry through decimals, and into the whole part
+rounds 2460523.6481999999 246052364820
+rounds 2460523.64199999995 246052364200
+rounds 0.999994999999 99999
+rounds 0.999995 100000
+rounds 9.999999999999 1000000
+rounds 2460523.999994 246052399999
+rounds 2460523.999996 246052400000
+rounds 2460999.9999951 246100000000
+# the bound: the largest date, and what comes to 2^38 units
+rounds 2748779.06943 274877906943
+rounds 2748779.069434 274877906943
+rounds 2748779.069434999999 274877906943
+rounds 2748779.069425 274877906943
+bad 'a date that only rounding makes too large' '5,2748779.069439,0,-1.440,0.012,3'
+bad 'a date that wraps at 64 bits' '5,184467440737095.516160,0,-1.440,0.012,3'
+bad 'a date whose digits wrap at 64 bits' '5,18446744.073709551616,0,-1.440,0.012,3'
+bad 'a date of forty digits before the point' '5,1000000000000000000000000000000000000000.000005,0,-1.440,0.012,3'
 # 65,536 bytes of text: the header and 2,519 lines of 26 bytes are 65,525; one line of 37 more bytes would be 65,562
 { echo "$header"; awk 'BEGIN { for (i = 0; i < 2518; i++) print "0,0.00000,0,0.000,0.000,0"; print "0,0.00000,0,0.000,0.000,0" }'; } >"$work/in"
 [ "$(wc -c <"$work/in")" -le 65536 ] || fail 'the long text is too long'

@@ -1,8 +1,9 @@
 """Compares examples/strip.py with the proved programs: on every file of examples/, and on good, damaged, short and overlong strips, texts
-and rows.
+and rows; and strippack's dates with Python's decimal numbers.
 
 The cases are the same in every run: their random numbers have a fixed seed. Run by tests/python.sh."""
 import collections
+import decimal
 import os
 import random
 import struct
@@ -73,17 +74,32 @@ def flipped(data, k):
 # ---- texts
 
 
-def decimal(units, places):
+def spelled(units, places):
     digits = str(abs(units)).rjust(places + 1, "0")
     return ("-" if units < 0 else "") + digits[:-places] + "." + digits[-places:]
 
 
 def good_line():
-    """a line of the grammar, its numbers often at their edges and its date with up to seven decimals too many"""
+    """a line of the grammar, its numbers often at their edges and its date with up to seven decimals more than five"""
     star, date, limit, magnitude, error, filter = (int(extreme(width), 2) for width in WIDTHS)
     more = "".join(rng.choice("0123456789") for _ in range(rng.randrange(8)))
-    words = (star, decimal(date, 5) + more, limit, decimal(magnitude - 32768, 3), decimal(error, 3), filter)
+    if date == (1 << 38) - 1 and more[:1] >= "5":
+        more = "4" + more[1:]  # a half would take it past the largest date
+    words = (star, spelled(date, 5) + more, limit, spelled(magnitude - 32768, 3), spelled(error, 3), filter)
     return (",".join(map(str, words)) + "\n").encode()
+
+
+def long_dates(n):
+    """dates of six to twelve decimals: any, or from the sixth on about a half; days and first decimals any, or such that a carry runs"""
+    for _ in range(n):
+        first = rng.choice(("%05d" % rng.randrange(100000), "99999", "09999", "64819"))
+        more = rng.randrange(1, 8)
+        rest = rng.choice(("%07d" % rng.randrange(10**7), "4999999", "5000000", "5000001", "4999998", "9999999", "0000000"))
+        yield "%d.%s%s" % (rng.choice((0, 9, 2460523, 2460999, rng.randrange(2748779))), first, rest[:more])
+
+
+DATES = list(long_dates(1200))
+DATED = HEADER + b"".join(b"0,%s,0,0.000,0.000,0\n" % date.encode() for date in DATES)
 
 
 def damaged(text):
@@ -101,6 +117,7 @@ def edges():
     wholes = b"0 1 2 9 15 16 00 01 1048575 1048576 10485750 -1 -0 +1 1. 1.0 1e3 0x1 4294967296 18446744073709551616".split()
     decimals = b"0 0. .0 0.00 0.000 -0.000 -0.001 0.0000 00.000 1.023 1.024 32.767 32.768 -32.768 -32.769 -.500 0,500 1_0.000 1.-00".split()
     dates = b"0.0000 0.00000 0.000000000000 0.0000000000000 2748779.06943 2748779.069439999999 2748779.06944 -0.00001 99999999.00000".split()
+    dates += b"0.000004 0.0000049999 0.000005 0.999994999999 0.999995 2460523.999996 2748779.069434999999 2748779.069435 2748779.0694350".split()
     for i in range(6):
         for word in wholes + decimals + dates + [b"", b" 1", b"1 ", b"9" * 5000, b"1" * 5000 + b".000", "٣".encode()]:
             yield "number %d is %r" % (i + 1, word[:24]), HEADER + b",".join(numbers[:i] + [word] + numbers[i + 1 :]) + b"\n"
@@ -111,6 +128,7 @@ def texts():
     for n in range(len(whole) + 1):
         yield "the first %d bytes of a text" % n, whole[:n]
     yield from edges()
+    yield "dates of six to twelve decimals", DATED
     for n in range(25):
         good = HEADER + b"".join(good_line() for _ in range(n))
         yield "%d lines" % n, good
@@ -205,6 +223,18 @@ def by_command(job, name, data):
         fail("examples/strip.py %s ends with status %d, ./strip with %d: %s" % (job, theirs.returncode, ours.returncode, name))
 
 
+def by_decimal(words):
+    """the dates that strippack makes beside those of Python's decimal numbers, rounded half up"""
+    strip = subprocess.run(words, input=DATED, capture_output=True).stdout
+    dates = [record[1] for record in example.records_of(strip)[0]]
+    if len(dates) != len(DATES):
+        fail("strippack made %d records of %d dates" % (len(dates), len(DATES)))
+    for word, date in zip(DATES, dates):
+        want = decimal.Decimal(word).quantize(decimal.Decimal("0.00001"), decimal.ROUND_HALF_UP).scaleb(5)
+        if date != want:
+            fail("%s is packed as %d, by decimal it is %d" % (word, date, want))
+
+
 def main():
     os.chdir(ROOT)
     met = collections.Counter()
@@ -220,6 +250,8 @@ def main():
             fail("%s can't be run" % program)
         for name, data in cases[job]:
             by_function(job, name, data, words.stdout.splitlines(), met)
+        if job == "pack":
+            by_decimal(words.stdout.splitlines())
     for job, name, data in (
         ("list", "the night", open("examples/night.strip", "rb").read()),
         ("pack", "the night", open("examples/night.txt", "rb").read()),

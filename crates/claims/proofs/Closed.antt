@@ -45,7 +45,7 @@ use Rattle.plan.specs.Run.{runOf, runOut}
 use Rattle.plan.proofs.Theorems as P
 use Rattle.line.specs.declared.LineRead.{LineRead}
 use Rattle.line.specs.Grammar.{Line}
-use Rattle.line.proofs.Theorems.{accepted, acceptable}
+use Rattle.line.proofs.Theorems.{accepted, acceptable, refusable, nearest-date, five-exact, sixth-decides, date-bound}
 use Rattle.listing.specs.Listing.{writeLine, writeOut}
 use Rattle.listing.proofs.Theorems.{round-trip, five-decimals, line-room}
 use Rattle.strip.specs.declared.StripRead.{StripRead}
@@ -288,8 +288,20 @@ lines-exactly s r short = (
   λ l. acceptable short l,
 )
 
+pub lines-else : C.LinesElse
+lines-else = refusable
+
 pub lines-back : C.LinesBack
 lines-back r fit = let (size, few) = line-room r fit in (round-trip r fit, five-decimals r, omega (arith, size, few))
+
+pub dates-nearest : C.DatesNearest
+dates-nearest s r l = (nearest-date l, five-exact l)
+
+pub sixth-decides-date : C.SixthDecides
+sixth-decides-date s r l = sixth-decides l
+
+pub dates-bounded : C.DatesBounded
+dates-bounded = date-bound
 
 -- ---- records and strips
 

@@ -160,6 +160,11 @@ table =
     gives map pos (0x00 ∷ 0x00 ∷ 0x5e ∷ 0x52 ∷ 0x77 ∷ 0x48 ∷ 0x84 ∷ 0x5f ∷ 0x4c ∷ 0x00 ∷ 0x61 ∷ 0x80 ∷ []))
     ∷ (packed-by-program (ascii "star,date,limit,mag,err,filter" ++ newline ∷ (ascii "5,2460523.64817,0,-1.440,0.012,3" ++ newline ∷ (ascii "5,2460523.64817" ++ newline ∷ [])))
     gives map pos (ascii "bad line 3" ++ newline ∷ []))
+    -- a half goes upward, and past the largest date nothing goes
+    ∷ (packed-by-program (ascii "star,date,limit,mag,err,filter" ++ newline ∷ (ascii "5,2460523.648165,0,-1.440,0.012,3" ++ newline ∷ []))
+    gives map pos (0x00 ∷ 0x00 ∷ 0x5e ∷ 0x52 ∷ 0x77 ∷ 0x48 ∷ 0x84 ∷ 0x5f ∷ 0x4c ∷ 0x00 ∷ 0x61 ∷ 0x80 ∷ []))
+    ∷ (packed-by-program (ascii "star,date,limit,mag,err,filter" ++ newline ∷ (ascii "5,2748779.069435,0,-1.440,0.012,3" ++ newline ∷ []))
+    gives map pos (ascii "bad line 2" ++ newline ∷ []))
     ∷ (rows-by-program (0x00 ∷ 0x00 ∷ 0x5e ∷ 0x52 ∷ 0x77 ∷ 0x48 ∷ 0x84 ∷ 0x5f ∷ 0x4c ∷ 0x00 ∷ 0x61 ∷ 0x80 ∷ [])
     gives map pos (0 ∷ 0 ∷ 0 ∷ 5 ∷ 0 ∷ 0 ∷ 0 ∷ 0x39 ∷ 0x49 ∷ 0xdd ∷ 0x22 ∷ 0x11 ∷ 0x46 ∷ 0xfa ∷ 0x60 ∷ 0 ∷ 0x0c ∷ 3 ∷ []))
     ∷ (rows-by-program (0 ∷ []) gives map pos (ascii "bad tail" ++ newline ∷ []))

@@ -3,10 +3,11 @@
 use Prim.Native.Nat.{ℕ, suc, _+_, _-_, _*_, _/_, _%_, _^_, _<_, _≤_}
 use mathlib.Core.Path.{_≡_}
 use mathlib.Core.Logic.{_↔_}
-use mathlib.Core.Bool.{true, false}
-use mathlib.Core.List.{List, [], _∷_, map}
+use mathlib.Core.Bool.{true, false, cond}
+use mathlib.Core.List.{List, [], _∷_, _++_, map}
 use lib.IntN.{ℤ}
 use lib.ListN.{length, take, drop, getD}
+use lib.Dec.{leb}
 use lib.Seq.{sets}
 use lib.Ieee.{binary32, binary64, nanBits}
 use Rattle.bits.specs.declared.Order.{Order}
@@ -16,7 +17,7 @@ use Rattle.bits.specs.Field.{field, join}
 use Rattle.bits.specs.Signed.{signed, pattern}
 use Rattle.packing.specs.Packing.{filled, story}
 use Rattle.record.specs.declared.Record.{Record}
-use Rattle.record.specs.Record.{Fits, recordBits, noRecord}
+use Rattle.record.specs.Record.{Fits, dateBits, recordBits, noRecord}
 use Rattle.sign.specs.Extend.{extendOf}
 use Rattle.reader.specs.declared.Cursor.{Cursor}
 use Rattle.reader.specs.Cursor.{place, bitsLeft, cursorRefusal}
@@ -42,6 +43,8 @@ use Rattle.layout.specs.Plan.{compile}
 use Rattle.layout.specs.Answers.{compileOf, compileOut, checkOf}
 use Rattle.plan.specs.Run.{patternOf, fieldsOf, runOf, runOut}
 use Rattle.plan.specs.FieldReads.{readFields}
+use Rattle.digits.specs.Digits.{comma, point, zeroDigit, Digits, valueOf}
+use Rattle.line.specs.Date.{unitsOf, Nearest}
 use Rattle.line.specs.Grammar.{Line}
 use Rattle.line.specs.Reading.{lineRead, readLine}
 use Rattle.listing.specs.Listing.{partsOf, lineOf, writeLine, writeOut}
@@ -319,9 +322,35 @@ LayoutBytes = ((fs : List Item) → areLayout fs ≡ true → (isLayout (bytesOf
 abbrev pub LinesExactly : Type 0
 LinesExactly = (s : List ℕ) (r : Record) → length s ≤ longest → (readLine s ≡ lineRead done r) ↔ Line s r
 
+-- and what is no line is refused with 7
+abbrev pub LinesElse : Type 0
+LinesElse = (s : List ℕ) → length s ≤ longest → ((r : Record) → Line s r → ⊥) → readLine s ≡ lineRead badLine noRecord
+
 -- the line of a record that fits is read as that record, has five date decimals and at most 41 bytes
 abbrev pub LinesBack : Type 0
 LinesBack = (r : Record) → Fits r → (readLine (lineOf r) ≡ lineRead done r) × (length (partsOf r .dayDecimals) ≡ 5) × (length (lineOf r) ≤ 41)
+
+-- a line's date, and no other number, is the nearest unit, halves upward, to the number that its digits spell together; with five decimals it is that
+abbrev pub DatesNearest : Type 0
+DatesNearest =
+    (s : List ℕ) (r : Record) (l : Line s r) →
+    let ds = l .parts .dayDecimals in
+    let n = valueOf (l .parts .days ++ ds) in
+    ((u : ℕ) → Nearest n (10 ^ (length ds - 5)) u ↔ (u ≡ r .date)) × (length ds ≡ 5 → r .date ≡ n)
+
+-- and the sixth decimal decides alone: from 5 on it adds a unit to what the digits before it spell
+abbrev pub SixthDecides : Type 0
+SixthDecides =
+    (s : List ℕ) (r : Record) (l : Line s r) →
+    let ds = l .parts .dayDecimals in
+    6 ≤ length ds → r .date ≡ valueOf (l .parts .days ++ take 5 ds) + cond (leb (zeroDigit + 5) (getD ds 5 0)) 1 0
+
+-- a date that comes to 2^38 units or more is refused with 7, whatever else is in the text
+abbrev pub DatesBounded : Type 0
+DatesBounded =
+    (star days ds rest : List ℕ) → Digits star → Digits days → Digits ds →
+    let s = star ++ comma ∷ (days ++ point ∷ (ds ++ comma ∷ rest)) in
+    length s ≤ longest → 2 ^ dateBits ≤ unitsOf (valueOf days) (valueOf ds) (length ds) → readLine s ≡ lineRead badLine noRecord
 
 -- ---- records and strips
 

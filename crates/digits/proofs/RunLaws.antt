@@ -3,10 +3,10 @@ use Prim.Native.Nat.{ℕ, suc, _+_, _-_, _*_, _^_, _<_, _≤_}
 use mathlib.Core.Path.{_≡_, refl, sym, ap, _∙_, subst}
 use mathlib.Core.Bool.{Bool, true, false, cond, and-eq-true-iff}
 use mathlib.Core.List.{List, [], _∷_, _++_}
-use lib.ListN.{length, getD}
+use lib.ListN.{length, getD, drop}
 use lib.Dec.{leb}
 use native.Mathlib.Omega.{arith}
-use native.Mathlib.Nat.{mul-le-mul-right, mul-assoc, pow-succ', pow-le-pow-right, zero-lt-suc}
+use native.Mathlib.Nat.{add-mul, mul-le-mul-right, mul-assoc, mul-left-comm, pow-succ', pow-le-pow-right, zero-lt-suc}
 use borrow.Author.Tests.{le-leb, leb-true}
 use Rattle.digits.specs.Digits.{Digits, none, digit, zeroDigit, nineDigit, valueFrom, valueOf}
 use Rattle.digits.specs.Reading.{isDigit, run, after, most, sat}
@@ -33,17 +33,32 @@ value-lt a (digit {b} {s} h k d) =
     let e : suc a * 10 * 10 ^ length s ≡ suc a * 10 ^ suc (length s) = mul-assoc (suc a) 10 (10 ^ length s) ∙ ap (λ (n : ℕ). suc a * n) (sym p) in
     subst (λ (n : ℕ). valueFrom (10 * a + (b - zeroDigit)) s < n) e (omega arith)
 
--- and no less than those in front of them, moved n places
-pub value-least : (s : List ℕ) (a : ℕ) → a * 10 ^ length s ≤ valueFrom a s
+-- behind a number they move it by their places, and add what they spell
+pub value-from : (s : List ℕ) (a : ℕ) → valueFrom a s ≡ a * 10 ^ length s + valueOf s
 unfolding valueFrom
-value-least [] a = omega arith
-value-least (b ∷ s) a =
-    let i = value-least s (10 * a + (b - zeroDigit)) in
-    let x : a * 10 ≤ 10 * a + (b - zeroDigit) = omega arith in
-    let m = mul-le-mul-right (10 ^ length s) x in
-    let p : 10 ^ suc (length s) ≡ 10 * 10 ^ length s = pow-succ' 10 (length s) in
-    let e : a * 10 * 10 ^ length s ≡ a * 10 ^ suc (length s) = mul-assoc a 10 (10 ^ length s) ∙ ap (λ (n : ℕ). a * n) (sym p) in
-    subst (λ (n : ℕ). n ≤ valueFrom (10 * a + (b - zeroDigit)) s) e (omega arith)
+value-from [] a = omega arith
+value-from (b ∷ s) a =
+    let t = 10 ^ length s in
+    let x = b - zeroDigit in
+    let y : 10 * 0 + x ≡ x = omega arith in
+    let i = value-from s (10 * a + x) in
+    let j = value-from s (10 * 0 + x) ∙ ap (λ (n : ℕ). n * t + valueOf s) y in
+    let p : a * 10 ^ suc (length s) ≡ 10 * a * t = ap (λ (n : ℕ). a * n) (pow-succ' 10 (length s)) ∙ mul-left-comm a 10 t ∙ sym (mul-assoc 10 a t) in
+    let e = add-mul (10 * a) x t in
+    omega arith
+
+-- so they spell no less than it, moved by their places
+pub value-least : (s : List ℕ) (a : ℕ) → a * 10 ^ length s ≤ valueFrom a s
+value-least s a = let e = value-from s a in omega arith
+
+pub value-behind : (s t : List ℕ) (a : ℕ) → valueFrom a (s ++ t) ≡ valueFrom (valueFrom a s) t
+unfolding valueFrom
+value-behind [] t a = refl
+value-behind (b ∷ s) t a = value-behind s t (10 * a + (b - zeroDigit))
+
+-- digits together
+pub value-append : (s t : List ℕ) → valueOf (s ++ t) ≡ valueOf s * 10 ^ length t + valueOf t
+value-append s t = value-behind s t 0 ∙ value-from t (valueOf s)
 
 -- twelve digits or fewer are below the bound
 pub value-most : {s : List ℕ} → Digits s → length s ≤ 12 → valueOf s < most
@@ -100,3 +115,10 @@ module _ (c : ℕ) (s : List ℕ) (e : isDigit c ≡ false) where
   unfolding after
   after-of none = rw e
   after-of (digit {b} h k d) = rw (digit-is b h k) (after-of d)
+
+-- so digits up to the same byte are the same, and what is behind it too
+pub split-same : {ds es : List ℕ} (c : ℕ) (s t : List ℕ) → isDigit c ≡ false → Digits ds → Digits es → ds ++ c ∷ s ≡ es ++ c ∷ t → (ds ≡ es) × (s ≡ t)
+split-same c s t e d f h = (
+  sym (run-of c s e d) ∙ ap run h ∙ run-of c t e f,
+  ap (λ (l : List ℕ). drop 1 l) (sym (after-of c s e d) ∙ ap after h ∙ after-of c t e f),
+)

@@ -1,4 +1,5 @@
 pub mod DateLaws
+mod SixthLaws
 pub mod Theorems
 pub mod Examples
 pub mod GrammarLaws

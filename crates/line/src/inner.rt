@@ -37,7 +37,7 @@ fn ten_to(n: usize) -> u64
     p
 }
 
-// The date rule: the units of whole days and of the number that `count` decimals spell.
+// The date rule: the nearest units of whole days and of the number that `count` decimals spell, halves upward.
 fn units(whole: u64, decimals: u64, count: usize) -> u64
     requires { ⌜ (whole ≤ most) × (decimals ≤ most) × (count ≤ 12) ⌝ }
     ensures { λ r. ⌜ r ≡ unitsOf whole decimals count ⌝ }
@@ -45,7 +45,8 @@ fn units(whole: u64, decimals: u64, count: usize) -> u64
     if count <= 5 {
         return DAY * whole + decimals;
     }
-    DAY * whole + decimals / ten_to(count - 5)
+    let unit = ten_to(count - 5);
+    DAY * whole + (decimals + unit / 2) / unit
 }
 
 // The date at a place, and its comma.
