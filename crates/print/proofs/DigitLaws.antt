@@ -10,6 +10,7 @@ use native.Mathlib.Nat.{pow-succ', pow-le-pow-right, one-le-pow, zero-lt-suc}
 use borrow.Author.Tests.{leb-true, leb-false, ltb-true, ltb-false, lt-ltb}
 use Rattle.bits.proofs.TestLaws.{by-test}
 use Rattle.digits.specs.Digits.{zeroDigit, Digits, none, digit, valueFrom, valueOf, Whole, Decimals}
+use Rattle.digits.proofs.RunLaws.{value-behind}
 use Rattle.print.specs.Print.{digitsOf, placesIn, places, wholeOf}
 
 -- ---- the last k digits
@@ -31,23 +32,14 @@ digits-length (suc k) n =
     let i = digits-length k (n / 10) in
     omega arith
 
-value-none : valueOf [] ≡ 0
-unfolding valueFrom
-value-none = refl
-
-value-snoc : (s : List ℕ) (a b : ℕ) → valueFrom a (s ++ b ∷ []) ≡ 10 * valueFrom a s + (b - zeroDigit)
-unfolding valueFrom
-value-snoc [] a b = refl
-value-snoc (c ∷ s) a b = value-snoc s (10 * a + (c - zeroDigit)) b
-
 -- k digits spell a number below 10 ^ k
 pub digits-value : (k n : ℕ) → n < 10 ^ k → valueOf (digitsOf k n) ≡ n
-unfolding digitsOf
-digits-value zero n h = let e = value-none in omega arith
+unfolding valueFrom digitsOf
+digits-value zero n h = omega arith
 digits-value (suc k) n h =
     let p : 10 ^ suc k ≡ 10 * 10 ^ k = pow-succ' 10 k in
     let i = digits-value k (n / 10) (omega arith) in
-    let v = value-snoc (digitsOf k (n / 10)) 0 (zeroDigit + n % 10) in
+    let v = value-behind (digitsOf k (n / 10)) ((zeroDigit + n % 10) ∷ []) 0 in
     omega arith
 
 -- k digits are k decimals, and so from fewer to more of them
