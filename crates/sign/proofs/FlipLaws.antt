@@ -1,10 +1,10 @@
--- Bits turned over, as the code does it: all of a signed number's by -1 - z, and the top one of a field by exclusive-or.
+-- Bits as the code turns and takes them: all of a signed number's turned over by -1 - z, and the top one of a field by a mask.
 use mathlib.Core.Path.{_≡_, refl, ap, _∙_, subst}
 use mathlib.Core.Bool.{true, false}
 use Prim.Native.Nat.{ℕ, zero, suc, _+_, _-_, _*_, _%_, _^_, _<_, _≤_}
 use native.Mathlib.Nat.{zero-add, one-mul, pow-suc}
 use native.Mathlib.Omega.{arith}
-use lib.Bits.{bitXor, xor-shifted, xor-block, xor-comm, xor-zero-r}
+use lib.Bits.{bitAnd, and-shifted, and-block, and-comm, and-zero-r}
 use lib.Dec.{T}
 use lib.IntN.{ℤ, pos, negsuc, _-ℤ_}
 use lib.Pow.{pow-pos, pow-mono}
@@ -56,38 +56,37 @@ nonnegative (negsuc n) h = absurd (subst T h tt)
 
 -- ---- the top bit
 
-flip-low : (j v : ℕ) → v < 2 ^ j → bitXor v (2 ^ j) ≡ v + 2 ^ j
-flip-low j v h =
-    let e : 1 * 2 ^ j ≡ 2 ^ j = one-mul (2 ^ j) in
-    xor-comm v (2 ^ j) ∙ (rw e at (xor-shifted 1 j v h)) ∙ omega arith
+-- a mask by its worth leaves nothing where it is clear, and its worth where it is set
+top-clear : (j v : ℕ) → v < 2 ^ j → bitAnd v (2 ^ j) ≡ 0
+top-clear j v h = and-comm v (2 ^ j) ∙ (rw (one-mul (2 ^ j)) at (and-shifted 1 j v h))
 
-flip-high : (j v : ℕ) → 2 ^ j ≤ v → v < 2 ^ suc j → bitXor v (2 ^ j) ≡ v - 2 ^ j
-flip-high j v h l =
+top-set : (j v : ℕ) → 2 ^ j ≤ v → v < 2 ^ suc j → bitAnd v (2 ^ j) ≡ 2 ^ j
+top-set j v h l =
     let s : 2 ^ suc j ≡ 2 ^ j * 2 = pow-suc 2 j in
     let t : v - 2 ^ j < 2 ^ j = omega arith in
     let a : 1 * 2 ^ j + (v - 2 ^ j) ≡ v = omega arith in
     let b : 1 * 2 ^ j + 0 ≡ 2 ^ j = omega arith in
-    (rw (a, b) at (xor-block j 1 1 (v - 2 ^ j) 0 t (pow-pos j))) ∙ rw xor-zero-r (omega arith)
+    (rw (a, b) at (and-block j 1 1 (v - 2 ^ j) 0 t (pow-pos j))) ∙ rw and-zero-r (omega arith)
 
--- r is v with its top bit turned over, less that bit's worth, modulo 2 ^ 64
-wrapped : (j v r : ℕ) → j ≤ 63 → v < 2 ^ suc j → r < 2 ^ 64 → (r + 2 ^ j) % 2 ^ 64 ≡ bitXor v (2 ^ j) → signed 64 r ≡ signed (suc j) v
-wrapped j v r hj hv hr e =
+-- r is v less twice its top bit, modulo 2 ^ 64
+subtracted : (j v r : ℕ) → j ≤ 62 → v < 2 ^ suc j → r < 2 ^ 64 → (r + 2 * bitAnd v (2 ^ j)) % 2 ^ 64 ≡ v → signed 64 r ≡ signed (suc j) v
+subtracted j v r hj hv hr e =
     let s : 2 ^ suc j ≡ 2 ^ j * 2 = pow-suc 2 j in
-    let m : 2 ^ j ≤ 2 ^ 63 = pow-mono hj in
+    let m : 2 ^ j ≤ 2 ^ 62 = pow-mono hj in
     by-half (λ (z : ℤ). signed 64 r ≡ z) j v hv
     (λ (l : v < 2 ^ j).
-    let f : (r + 2 ^ j) % 2 ^ 64 ≡ v + 2 ^ j = e ∙ flip-low j v l in
+    let f : (r + 2 * 0) % 2 ^ 64 ≡ v = rw (top-clear j v l) at e in
     let q : r ≡ v = omega arith in
     signed-low 63 r (omega arith) ∙ ap pos q)
     (λ (g : 2 ^ j ≤ v).
-    let f : (r + 2 ^ j) % 2 ^ 64 ≡ v - 2 ^ j = e ∙ flip-high j v g hv in
+    let f : (r + 2 * 2 ^ j) % 2 ^ 64 ≡ v = rw (top-set j v g hv) at e in
     let q : 2 ^ 64 - suc r ≡ 2 ^ suc j - suc v = omega arith in
     signed-high 63 r (omega arith) hr ∙ ap negsuc q)
 
--- the same at a width from 1 to 64, with the worth as the code computes it
-pub flipped : (w v r : ℕ) → 1 ≤ w → w ≤ 64 → v < 2 ^ w → r < 2 ^ 64 → (r + 1 * 2 ^ (w - 1) % 2 ^ 64) % 2 ^ 64 ≡ bitXor v (1 * 2 ^ (w - 1) % 2 ^ 64) → signed 64 r ≡ signed w v
-flipped zero v r p hw hv hr e = absurd (omega arith)
-flipped (suc j) v r p hw hv hr e =
+-- the same at a width from 1 to 63, with the top bit's worth as the code computes it
+pub top-subtracted : (w v r : ℕ) → 1 ≤ w → w ≤ 63 → v < 2 ^ w → r < 2 ^ 64 → (r + 2 * bitAnd v (1 * 2 ^ (w - 1) % 2 ^ 64)) % 2 ^ 64 ≡ v → signed 64 r ≡ signed w v
+top-subtracted zero v r p hw hv hr e = absurd (omega arith)
+top-subtracted (suc j) v r p hw hv hr e =
     let h : j ≤ 63 = omega arith in
     let o : suc j - 1 ≡ j = omega arith in
-    wrapped j v r h hv hr (rw (o, one-shl j h) at e)
+    subtracted j v r (omega arith) hv hr (rw (o, one-shl j h) at e)

@@ -15,8 +15,24 @@ pub fn fits(val: u64, bits: u32) -> bool
     val < 1 << bits
 }
 
-// The 64 bits in two's complement of the signed number that `bits` bits stand for: the top bit is flipped and its worth taken off, modulo
-// 2^64.
+// The signed number that `bits` bits stand for: 2^bits is subtracted if the top bit is set, which is worth 2^(bits - 1). Width 0 is 0.
+pub fn extend(val: u64, bits: u32) -> i64
+    requires { ⌜ (bits ≤ 64) × (val < 2 ^ bits) ⌝ }
+    ensures { λ r. ⌜ r ≡ signed bits val ⌝ }
+{
+    match bits {
+        0 => 0,
+        // the wrap: 2^64 is 0 modulo 2^64, so val - 2^64 has val's own bits, and read as signed these are exactly that number
+        64 => signed_of_bits(val),
+        _ => {
+            let top = val & (1 << (bits - 1));
+            signed_of_bits(std::num::wrapping_sub_u64(val, 2 * top))
+        }
+    }
+}
+
+// The same number's 64 bits in two's complement, as plans and strips get them fastest: the field is moved to the top of a word, extended
+// as 64 bits are, and moved back with its sign.
 pub fn widened(val: u64, bits: u32) -> u64
     requires { ⌜ (bits ≤ 64) × (val < 2 ^ bits) ⌝ }
     ensures { λ r. ⌜ r ≡ pattern 64 (signed bits val) ⌝ }
@@ -24,16 +40,8 @@ pub fn widened(val: u64, bits: u32) -> u64
     if bits == 0 {
         return 0;
     }
-    let m = 1u64 << (bits - 1);
-    std::num::wrapping_sub_u64(val ^ m, m)
-}
-
-// The signed number that `bits` bits stand for.
-pub fn extend(val: u64, bits: u32) -> i64
-    requires { ⌜ (bits ≤ 64) × (val < 2 ^ bits) ⌝ }
-    ensures { λ r. ⌜ r ≡ signed bits val ⌝ }
-{
-    signed_of_bits(widened(val, bits))
+    let above = 64 - bits;
+    bits_of_signed(extend(val << above, 64) >> above)
 }
 
 // The signed number that 64 bits stand for in two's complement.

@@ -1,10 +1,16 @@
--- `widened` meets its contract: the top bit turned over, less its worth modulo 2 ^ 64, has the field's signed meaning (`flipped`). Assumes nothing.
-use mathlib.Core.Path.{sym, ap, _∙_}
+-- `widened` meets its contract: the bits of what `extend` makes of the field at the top of a word, moved back. Assumes nothing.
+use mathlib.Core.Path.{_≡_, ap, _∙_}
+use Prim.Native.Nat.{ℕ, _-_, _^_}
+use native.Mathlib.Nat.{lt-of-le-of-lt}
 use native.Mathlib.Omega.{arith}
-use Rattle.bits.specs.Signed.{signed, pattern}
-use Rattle.sign.proofs.SignedLaws.{pattern-signed}
-use Rattle.sign.proofs.FlipLaws.{flipped}
+use lib.IntN.{ℤ}
+use lib.Signed.{mag-shr, shrZ}
+use mir.Syntax.{w64}
+use mir.Val.{SFits, toZ, ofZ}
+use mir.ValLaws.{toZ-ofZ}
 use borrow.Author.Needs.{needs}
+use Rattle.bits.specs.Signed.{signed, pattern}
+use Rattle.sign.proofs.SignedLaws.{moved-back}
 use Rattle.sign.proofs.inner.widened.Statement.{statement}
 use Rattle.sign.proofs.inner.widened.Tie as tie
 
@@ -12,25 +18,47 @@ returns : tie.Need-returns
 unfolding signed pattern
 returns c = rw (c .if1 .taken)
 
-sub-m : tie.Need-sub-m
-sub-m c = search needs
+sub-above : tie.Need-sub-above
+sub-above c = search needs
 
-cast-m : tie.Need-cast-m
-cast-m c = search needs
+cast-extend : tie.Need-cast-extend
+cast-extend c = search needs
 
-shl-m : tie.Need-shl-m
-shl-m c = search needs
+shl-extend : tie.Need-shl-extend
+shl-extend c = search needs
 
-wrapping-sub-u64-requires : tie.Need-wrapping-sub-u64-requires
-wrapping-sub-u64-requires c κs = search needs
+extend-requires : tie.Need-extend-requires
+extend-requires c κs = search needs
+
+cast-bits-of-signed : tie.Need-cast-bits-of-signed
+cast-bits-of-signed c = search needs
+
+shr-bits-of-signed : tie.Need-shr-bits-of-signed
+shr-bits-of-signed c = search needs
+
+bits-of-signed-requires : tie.Need-bits-of-signed-requires
+bits-of-signed-requires c κs = search needs
 
 returns-2 : tie.Need-returns-2
 returns-2 c =
-    let a = c .before .before .args in
-    let h = c .before .before .pre in
-    let r = c .wrapping-sub-u64 in
-    sym (pattern-signed 64 (r .result) (r .ok))
-    ∙ ap (pattern 64) (flipped (a .bits) (a .val) (r .result) (omega arith) (h .0) (h .1) (r .ok) (r .ensures))
+    let s = c .before .before .before in
+    let k : ℕ = 64 - s .args .bits in
+    let x = c .before .extend in
+    let e : toZ w64 (ofZ w64 (x .result)) ≡ x .result = toZ-ofZ w64 (x .result) (record { sfits = x .ok }) in
+    let f : SFits w64 (shrZ (x .result) (2 ^ k)) = record { sfits = lt-of-le-of-lt (mag-shr (x .result) (2 ^ k)) (x .ok) } in
+    c .bits-of-signed .ensures
+    ∙ ap (pattern 64) (rw e (toZ-ofZ w64 (shrZ (x .result) (2 ^ k)) f) ∙ ap (λ (z : ℤ). shrZ z (2 ^ k)) (x .ensures) ∙ moved-back (s .args .bits) (s .args .val) (omega arith) (s .pre .0) (s .pre .1))
 
 pub widened-spec : {M : Type 1} → statement M
-widened-spec = tie.close (tie.spec returns sub-m cast-m shl-m wrapping-sub-u64-requires returns-2)
+widened-spec =
+    tie.close
+    (tie.spec
+    returns
+    sub-above
+    cast-extend
+    shl-extend
+    extend-requires
+    cast-bits-of-signed
+    shr-bits-of-signed
+    bits-of-signed-requires
+    returns-2)
