@@ -1,3 +1,4 @@
 pub mod SignedLaws
+pub mod TopBitLaws
 pub mod FlipLaws
 pub mod CastLaws

@@ -2,13 +2,13 @@
 use mathlib.Core.Path.{_≡_, refl, sym, ap, _∙_, subst}
 use mathlib.Core.Bool.{Bool, true, false, cond}
 use Prim.Native.Nat.{ℕ, zero, suc, _+_, _-_, _*_, _/_, _%_, _^_, _<_, _≤_}
-use native.Mathlib.Nat.{add-mul, mul-le-mul-right, mod-lt, mod-eq-of-lt, pow-suc, sub-add-cancel}
+use native.Mathlib.Nat.{add-mul, mod-lt, mod-eq-of-lt, pow-suc, sub-add-cancel}
 use native.Mathlib.Omega.{arith}
 use lib.Arith.{comp-comp}
 use lib.Dec.{leb}
 use lib.IntN.{ℤ, pos, negsuc, _-ℤ_}
-use lib.Pow.{pow-pos, pow-add, pow-sub-lt, shl-lt, shl-exact, shl-shr, high, low, mod-pow-add, mod-mod-pow}
-use lib.Signed.{mag, shrZ}
+use lib.Pow.{pow-pos, pow-add, pow-sub-lt, low, mod-pow-add, mod-mod-pow}
+use lib.Signed.{mag}
 use borrow.Author.Tests.{leb-true, leb-false, lt-ltb, le-ltb}
 use mir.Syntax.{Width, w64}
 use mir.Val.{SFits, bits, hbits, toZ, ofZ}
@@ -70,39 +70,6 @@ signed-pattern j (negsuc n) h =
     let l : n < 2 ^ suc j = omega arith in
     ap (λ (m : ℕ). signed (suc j) (2 ^ suc j - suc m)) (mod-eq-of-lt l)
     ∙ signed-high j (2 ^ suc j - suc n) (omega arith) (omega arith) ∙ ap negsuc (comp-comp l)
-
--- ---- moved to the top of a word
-
--- bits moved up by k mean 2 ^ k times as much, which a shift that keeps the sign takes back
-moved-up : (j k v : ℕ) → suc j + k ≡ 64 → v < 2 ^ suc j → shrZ (signed 64 (v * 2 ^ k)) (2 ^ k) ≡ signed (suc j) v
-moved-up j k v e h = by-half (λ (z : ℤ). shrZ (signed 64 (v * 2 ^ k)) (2 ^ k) ≡ z) j v h lower upper
-  where
-    f : j + k ≡ 63
-    f = omega arith
-
-    lower : v < 2 ^ j → shrZ (signed 64 (v * 2 ^ k)) (2 ^ k) ≡ pos v
-    lower l = ap (λ (z : ℤ). shrZ z (2 ^ k)) (signed-low 63 (v * 2 ^ k) (subst (λ (n : ℕ). v * 2 ^ k < 2 ^ n) f (shl-lt j k l))) ∙ ap pos (shl-shr v k)
-
-    upper : 2 ^ j ≤ v → shrZ (signed 64 (v * 2 ^ k)) (2 ^ k) ≡ negsuc (2 ^ suc j - suc v)
-    upper g =
-        let d : ℕ = 2 ^ suc j - suc v in
-        let p : 0 < 2 ^ k = pow-pos k in
-        let s : 2 ^ 63 ≡ 2 ^ j * 2 ^ k = ap (λ (n : ℕ). 2 ^ n) (sym f) ∙ pow-add 2 j k in
-        let t : 2 ^ 64 ≡ 2 ^ suc j * 2 ^ k = ap (λ (n : ℕ). 2 ^ n) (sym e) ∙ pow-add 2 (suc j) k in
-        let a : 2 ^ suc j ≡ d + suc v = sym (sub-add-cancel h) in
-        let b : 2 ^ 64 ≡ d * 2 ^ k + suc v * 2 ^ k = t ∙ ap (λ (n : ℕ). n * 2 ^ k) a ∙ add-mul d (suc v) (2 ^ k) in
-        let u : suc v * 2 ^ k ≡ v * 2 ^ k + 2 ^ k = omega arith in
-        let m : 2 ^ 64 - suc (v * 2 ^ k) ≡ d * 2 ^ k + (2 ^ k - 1) = omega arith in
-        ap (λ (z : ℤ). shrZ z (2 ^ k)) (signed-high 63 (v * 2 ^ k) (subst (λ (n : ℕ). n ≤ v * 2 ^ k) (sym s) (mul-le-mul-right (2 ^ k) g)) (omega arith))
-        ∙ ap (λ (n : ℕ). negsuc (n / 2 ^ k)) m ∙ ap negsuc (high d k (pow-sub-lt k (omega arith)))
-
--- the same at a width from 1 to 64, as the code computes it
-pub moved-back : (w v : ℕ) → 1 ≤ w → w ≤ 64 → v < 2 ^ w → shrZ (signed 64 (v * 2 ^ (64 - w) % 2 ^ 64)) (2 ^ (64 - w)) ≡ signed w v
-moved-back zero v p l h = absurd (omega arith)
-moved-back (suc j) v p l h =
-    let e : suc j + (64 - suc j) ≡ 64 = omega arith in
-    let f : suc j + (64 - suc j) ≤ 64 = omega arith in
-    rw (shl-exact (suc j) (64 - suc j) 64 h f) (moved-up j (64 - suc j) v e h)
 
 -- ---- low bits
 

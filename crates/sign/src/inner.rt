@@ -25,6 +25,7 @@ pub fn extend(val: u64, bits: u32) -> i64
         // the wrap: 2^64 is 0 modulo 2^64, so val - 2^64 has val's own bits, and read as signed these are exactly that number
         64 => signed_of_bits(val),
         _ => {
+            // twice the top bit's worth is 2^bits where it is set, and nothing where it is not
             let top = val & (1 << (bits - 1));
             signed_of_bits(std::num::wrapping_sub_u64(val, 2 * top))
         }

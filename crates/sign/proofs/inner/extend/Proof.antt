@@ -10,7 +10,7 @@ use mir.Syntax.{w64}
 use mir.ValLaws.{toZ-ofZ}
 use borrow.Author.Needs.{needs}
 use Rattle.bits.specs.Signed.{signed}
-use Rattle.sign.proofs.FlipLaws.{top-subtracted}
+use Rattle.sign.proofs.TopBitLaws.{top-subtracted}
 use Rattle.sign.proofs.inner.extend.Statement.{statement}
 use Rattle.sign.proofs.inner.extend.Tie as tie
 

@@ -10,7 +10,7 @@ use mir.Val.{SFits, toZ, ofZ}
 use mir.ValLaws.{toZ-ofZ}
 use borrow.Author.Needs.{needs}
 use Rattle.bits.specs.Signed.{signed, pattern}
-use Rattle.sign.proofs.SignedLaws.{moved-back}
+use Rattle.sign.proofs.TopBitLaws.{moved-back}
 use Rattle.sign.proofs.inner.widened.Statement.{statement}
 use Rattle.sign.proofs.inner.widened.Tie as tie
 
