@@ -1,5 +1,27 @@
 // What the Rust does on the inputs of docs/DIFFERENCES.md, one line each: a value, or that it panics.
 use bitter::{BigEndianReader, BigEndianWriter, BitReader, BitWriter, LittleEndianReader};
+use std::io::{Error, ErrorKind, Result, Write};
+
+// Takes bytes, but for the first call, which fails: a card that was full for a moment.
+struct Card {
+    failed: bool,
+    held: Vec<u8>,
+}
+
+impl Write for Card {
+    fn write(&mut self, buf: &[u8]) -> Result<usize> {
+        if !self.failed {
+            self.failed = true;
+            return Err(Error::new(ErrorKind::Other, "full"));
+        }
+        self.held.extend_from_slice(buf);
+        Ok(buf.len())
+    }
+
+    fn flush(&mut self) -> Result<()> {
+        Ok(())
+    }
+}
 
 fn shown(name: &str, f: impl FnOnce() -> String + std::panic::UnwindSafe) {
     std::panic::set_hook(Box::new(|_| {}));
@@ -37,6 +59,12 @@ fn main() {
         let mut out = Vec::new();
         BigEndianWriter::new(&mut out).write_bits(3, 5).unwrap();
         format!("{out:02x?}")
+    });
+    shown("write_u8(0xa5) whose Write fails, then flush, then what the Write has", || {
+        let mut w = BigEndianWriter::new(Card { failed: false, held: Vec::new() });
+        let wrote = w.write_u8(0xa5).is_ok();
+        let flushed = BitWriter::flush(&mut w).is_ok();
+        format!("write done: {wrote}, flush done: {flushed}, {:02x?}", w.get_ref().held)
     });
     shown("the NaN pattern 7fc01234 read as a single", || format!("{:x}", LittleEndianReader::new(&[0x34, 0x12, 0xc0, 0x7f]).read_f32().unwrap().to_bits()));
     shown("bits_remaining of one byte", || format!("{:?}", LittleEndianReader::new(&[0xff]).bits_remaining()));

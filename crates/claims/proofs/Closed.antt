@@ -10,7 +10,8 @@ use lib.Seq.{sets}
 use lib.Dec.{eqb, ltb}
 use borrow.Author.Tests.{ltb-true, ltb-false, le-ltb, lt-leb, eqb-true}
 use Rattle.bits.specs.declared.Order.{Order}
-use Rattle.bits.specs.Refusals.{done, orElse, firstRefusal, ifDone}
+use Rattle.bits.specs.declared.Order.the-variants.{Big}
+use Rattle.bits.specs.Refusals.{longest, done, orElse, firstRefusal, ifDone}
 use Rattle.bits.proofs.RefusalLaws.{passed, test-held, if-refused, if-done, number-of}
 use Rattle.bits.proofs.TestLaws.{both, by-test}
 use Rattle.sign.specs.Extend.{extendRefusal, extendOf}
@@ -24,13 +25,13 @@ use Rattle.reader.proofs.CursorLaws.{refusal-own, left-inside}
 use Rattle.reader.proofs.AnswerLaws.{read-refusal, bytes-none, none-out}
 use Rattle.reader.proofs.ReadLaws.{fresh-done, fresh-belongs, fresh-place, fresh-left, read-refused, read-enough, read-short, read-value, read-place, read-left, read-belongs, peek-value, consume-advanced, refill-advanced, bytes-advanced, bytes-field}
 use Rattle.reader.proofs.RemainderLaws.{remainder-where}
-use Rattle.packing.specs.Packing.{Belongs}
+use Rattle.packing.specs.Packing.{Belongs, stateRefusal}
 use Rattle.writer.specs.declared.Writer.{Writer}
 use Rattle.writer.specs.declared.Wrote.{Wrote}
 use Rattle.writer.specs.Writer.{stateIn}
 use Rattle.writer.specs.Answers as W
 use Rattle.writer.proofs.WriteLaws.{Stored, write-stored, signed-stored, bytes-stored, flush-stored}
-use Rattle.packing.proofs.BelongsLaws.{belongs-refusal}
+use Rattle.packing.proofs.BelongsLaws.{belongs-refusal, many-held}
 use Rattle.inplace.proofs.Theorems.{consume-refused, refill-refused}
 use Rattle.floats.proofs.FloatLaws.{single-same, double-same, single-plain, double-plain}
 use Rattle.typed.proofs.Theorems.{bits-kept, kind-kept, read-done, read-refused as typed-refused, typed-back}
@@ -69,6 +70,8 @@ use Rattle.jobs.proofs.ApartLaws.{too-long-apart, bad-tail-apart, bad-line-apar
 use Rattle.jobs.proofs.Theorems.{list-is, pack-is, list-room, pack-room, few-back, many-lost, rows-is, pack-rows-is, rows-room, pack-rows-room, rows-back, rows-lost}
 use Rattle.host.specs.Host.{hostValue}
 use Rattle.host.proofs.HostLaws.{not-refused, done-within}
+use Rattle.claims.proofs.ReachedLaws.{writer-kept, cursor-owned}
+use Rattle.claims.specs.Reached.{Only, Either}
 use Rattle.claims.specs.Claims as C
 use Rattle.claims.specs.Claims.{Entry, Fit, none, more, size, written, Stands}
 
@@ -123,6 +126,21 @@ refused-outputs s out = (
 
 pub refused-in-place : C.RefusedInPlace
 refused-in-place o s c d r h = (λ n p. consume-refused h o s c n p, λ p. refill-refused h o s c p)
+
+-- ---- the writers and cursors that calls make
+
+pub writers-reached : C.WritersReached
+writers-reached len w r = let (few, belongs) = writer-kept r in (belongs, few, λ some e. omega arith)
+
+pub writers-made-up : C.WritersMadeUp
+unfolding W.flushOf stateRefusal firstRefusal orElse
+writers-made-up o len w short many = rw (le-ltb longest len short, many-held len (stateIn w) many) (refl, refl)
+
+pub cursors-reached : C.CursorsReached
+cursors-reached s c short = (
+  λ o r. let (_, same, own) = cursor-owned (Only o) s short o refl r in subst (λ (p : Order). cursorRefusal p s c ≡ done) same own,
+  λ r. let (o, _, own) = cursor-owned Either s short Big tt r in (o, own),
+)
 
 -- ---- reads
 

@@ -12,7 +12,7 @@ use lib.Seq.{sets}
 use lib.Ieee.{binary32, binary64, nanBits}
 use Rattle.bits.specs.declared.Order.{Order}
 use Rattle.bits.specs.declared.Order.the-variants.{Big}
-use Rattle.bits.specs.Refusals.{longest, done, badPlan, badLine, tooFew, badRow}
+use Rattle.bits.specs.Refusals.{longest, done, foreign, badPlan, badLine, tooFew, badRow}
 use Rattle.bits.specs.Field.{field, join}
 use Rattle.bits.specs.Signed.{signed, pattern}
 use Rattle.packing.specs.Packing.{filled, story}
@@ -62,6 +62,7 @@ use Rattle.text.specs.Answers as X
 use Rattle.jobs.specs.Jobs.{tooLongSaid, badLineSaid, badRowSaid, listAnswer, packAnswer, rowsAnswer, packRowsAnswer}
 use Rattle.jobs.specs.Answers.{answeredOf, answeredOut}
 use Rattle.host.specs.Host.{orderOf, hostRefusal, hostValue}
+use Rattle.claims.specs.Reached.{Reached, Only, Either, ReachedCursor}
 
 -- ---- demand 1: a refusal hands back cursor, writer and lent memory as they came
 
@@ -109,6 +110,28 @@ abbrev pub RefusedInPlace : Type 0
 RefusedInPlace =
     (o : Order) (s : List ℕ) (c d : Cursor) (r : ℕ) → (r ≡ done → ⊥)
     → ((n : ℕ) → moved r d ≡ R.consumeOf o s c n → d ≡ c) × (moved r d ≡ R.refillOf o s c → d ≡ c)
+
+-- ---- the writers and cursors that calls make
+
+-- every writer that calls reach belongs to its output, if that is within the limit, and holds at most seven bits; so where it holds any, what
+-- a byte lacks is not eight bits, as the Rust's flush tests
+abbrev pub WritersReached : Type 0
+WritersReached =
+    (len : ℕ) (w : Writer) → Reached len w →
+    (len ≤ longest → writerRefusal len w ≡ done) × (w .held ≤ 7) × (0 < w .held → 8 - w .held % 8 ≡ 8 → ⊥)
+
+-- one that is made up with eight bits held or more belongs to no output: it is refused with 2, and handed back
+abbrev pub WritersMadeUp : Type 0
+WritersMadeUp =
+    (o : Order) (len : ℕ) (w : Writer) → len ≤ longest → 7 < w .held →
+    (writerRefusal len w ≡ foreign) × (W.flushOf o len w ≡ record { refusal = foreign; writer = w })
+
+-- every cursor that calls in one order reach belongs to its slice in that order; by calls in either order, it belongs in one of them
+abbrev pub CursorsReached : Type 0
+CursorsReached =
+    (s : List ℕ) (c : Cursor) → length s ≤ longest →
+    ((o : Order) → ReachedCursor (Only o) s c → cursorRefusal o s c ≡ done)
+    × (ReachedCursor Either s c → (o : Order) × (cursorRefusal o s c ≡ done))
 
 -- ---- demand 2: reads are by the bit definitions
 

@@ -22,7 +22,7 @@ use Rattle.plan.proofs.RunLaws.{bits-decide, run-done}
 
 module _ (o : Order) (s : List ℕ) (c : Cursor) (fs : List Item) (out : List ℕ) (layout : areLayout fs ≡ true) (own : cursorRefusal o s c ≡ done) (room : length fs ≤ length out) where
   -- the plan's fields are the layout's
-  pub same-fields : fieldsOf (compile fs) ≡ fs
+  same-fields : fieldsOf (compile fs) ≡ fs
   same-fields = decode-compiled fs (layout-of fs layout .1)
 
   -- the bits left decide

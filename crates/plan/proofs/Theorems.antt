@@ -1,6 +1,6 @@
 -- The theorems of running: a compiled layout is run to its fields' values, and that is what reading field by field gives.
 use Prim.Native.Nat.{ℕ, _+_, _<_, _≤_}
-use mathlib.Core.Path.{_≡_, sym, ap, _∙_, subst}
+use mathlib.Core.Path.{_≡_, refl, sym, ap, _∙_, subst}
 use mathlib.Core.Bool.{true, cond}
 use mathlib.Core.List.{List}
 use native.Mathlib.Omega.{arith}
@@ -21,12 +21,20 @@ use Rattle.layout.specs.Plan.{compile}
 use Rattle.layout.proofs.LayoutLaws.{layout-of}
 use Rattle.bits.proofs.StoreLaws.{front-drop, front-at}
 use Rattle.bits.proofs.TestLaws.{by-test}
+use Rattle.bits.proofs.RefusalLaws.{if-done}
 use Rattle.plan.specs.Run.{patternOf, valuesOf, runRefusal, runOf, runOut}
 use Rattle.plan.specs.FieldReads.{readFields}
 use Rattle.plan.proofs.RunLaws.{granted, run-refused}
 use Rattle.plan.proofs.ValueLaws.{length-values, value-at}
 use Rattle.plan.proofs.FieldReadLaws.{read-all, read-few}
-use Rattle.plan.proofs.CompiledLaws.{same-fields, compiled-refusal, compiled-done, compiled-ran}
+use Rattle.plan.proofs.CompiledLaws.{compiled-refusal, compiled-done, compiled-ran}
+
+-- a run that is done answers a cursor that belongs to the slice
+pub run-belongs : (o : Order) (s : List ℕ) (c : Cursor) (plan : List ℕ) (room : ℕ) → runRefusal o s c plan room ≡ done → cursorRefusal o s (runOf o s c plan room .cursor) ≡ done
+unfolding runOf
+run-belongs o s c plan room z =
+    let g = granted o s c plan room z in
+    subst (λ (d : Cursor). cursorRefusal o s d ≡ done) (if-done refl _ _ z) (own-done (gone-own o s c (g .belongs) (g .inside)))
 
 -- a layout fs, a cursor c that belongs to the slice s, and results out with room
 module _ (o : Order) (s : List ℕ) (c : Cursor) (fs : List Item) (out : List ℕ) (layout : areLayout fs ≡ true) (own : cursorRefusal o s c ≡ done) (room : length fs ≤ length out) where
@@ -65,11 +73,7 @@ module _ (o : Order) (s : List ℕ) (c : Cursor) (fs : List Item) (out : List �
 
     -- the new cursor belongs to the slice
     pub compile-run-belongs : cursorRefusal o s ((runOf o s c (compile fs) (length out)) .cursor) ≡ done
-    compile-run-belongs =
-        let g = granted o s c (compile fs) (length out) (compiled-done o s c fs out layout own room enough) in
-        let inside = rw (same-fields o s c fs out layout own room) at (g .inside) in
-        subst (λ (m : Moved). cursorRefusal o s (m .cursor) ≡ done) (compiled-ran o s c fs out layout own room enough .0)
-        (own-done (gone-own o s c (g .belongs) inside))
+    compile-run-belongs = run-belongs o s c (compile fs) (length out) (compiled-done o s c fs out layout own room enough)
 
     -- reading field by field gives the values of the fields, and a cursor where the last field ends
     pub fields-read : (readFields o s c fs .values ≡ valuesOf o s (place c) fs) × (place (readFields o s c fs .cursor) ≡ place c + bitsOf fs)

@@ -1,5 +1,5 @@
 -- Laws of answers: what a call that is done has tested, and what it leaves.
-use mathlib.Core.Path.{_≡_, refl}
+use mathlib.Core.Path.{_≡_, refl, subst}
 use mathlib.Core.Bool.{true}
 use mathlib.Core.List.{List}
 use Prim.Native.Nat.{ℕ, _+_, _*_, _≤_}
@@ -9,13 +9,13 @@ use lib.Seq.{sets}
 use borrow.Author.Tests.{le-ltb, eq-eqb}
 use Rattle.bits.specs.declared.Order.the-variants.{Big}
 use Rattle.bits.specs.Refusals.{longest, done, orElse, firstRefusal}
-use Rattle.bits.proofs.RefusalLaws.{passed, test-held, at-most}
+use Rattle.bits.proofs.RefusalLaws.{passed, test-held, at-most, if-done}
 use Rattle.packing.specs.declared.State.{State}
 use Rattle.packing.specs.Packing.{Belongs, put, putOut}
 use Rattle.packing.proofs.BelongsLaws.{refusal-belongs, belongs-refusal}
 use Rattle.reader.specs.declared.Cursor.{Cursor}
-use Rattle.reader.specs.Cursor.{place, bitsLeft, Fits}
-use Rattle.reader.proofs.CursorLaws.{refusal-own, left-inside}
+use Rattle.reader.specs.Cursor.{place, bitsLeft, goneTo, cursorRefusal, Fits, Own}
+use Rattle.reader.proofs.CursorLaws.{refusal-own, own-done, left-inside, left-stop, gone-own}
 use Rattle.writer.specs.declared.Writer.{Writer}
 use Rattle.writer.specs.Writer.{stateIn, writerWith, bitsWritten, padding}
 use Rattle.writer.specs.Answers.{flushOut}
@@ -23,10 +23,11 @@ use Rattle.writer.proofs.WriteLaws.{Stored, put-stored}
 use Rattle.record.specs.declared.Record.{Record}
 use Rattle.record.specs.Record.{fits, recordBits}
 use Rattle.record.proofs.FitLaws.{fits-true}
+use Rattle.strip.specs.declared.RecordRead.{RecordRead}
 use Rattle.strip.specs.declared.Packed.{Packed}
 use Rattle.strip.specs.Bits.{bitsOf}
 use Rattle.strip.specs.Strip.{allNumbers, recordsIn, allFit, stripLength, stripBytes, countOf, recordsOf, tailGood}
-use Rattle.strip.specs.Answers.{packRefusal, packOf, packOut, readRefusal, stripRefusal, stripOf, packedOut, listRefusal, listOf, listOut}
+use Rattle.strip.specs.Answers.{packRefusal, packOf, packOut, readRefusal, readOf, stripRefusal, stripOf, packedOut, listRefusal, listOf, listOut}
 use Rattle.strip.proofs.BitsLaws.{bits-lt}
 
 -- an answer of two parts
@@ -40,14 +41,22 @@ pack-passed len w r z =
     let (of, (fit, room)) = passed _ z in
     (refusal-belongs len (stateIn w) of, at-most _ _ _ room, test-held _ _ fit)
 
--- a record that is read is there
-pub read-passed : (s : List ℕ) (c : Cursor) → readRefusal s c ≡ done → Fits s c × (place c + recordBits ≤ 8 * length s)
+-- a record is read from a cursor that belongs, with bits enough left
+read-granted : (s : List ℕ) (c : Cursor) → readRefusal s c ≡ done → Own Big s c × (recordBits ≤ bitsLeft s c)
 unfolding readRefusal
-read-passed s c z =
-    let (own, enough) = passed _ z in
-    let h = refusal-own own .fits in
-    let l : recordBits ≤ bitsLeft s c = at-most _ _ _ enough in
-    (h, omega (arith, l, left-inside h))
+read-granted s c z = let (own, enough) = passed _ z in (refusal-own own, at-most _ _ _ enough)
+
+-- so it is there
+pub read-passed : (s : List ℕ) (c : Cursor) → readRefusal s c ≡ done → Fits s c × (place c + recordBits ≤ 8 * length s)
+read-passed s c z = let (h, l) = read-granted s c z in (h .fits, omega (arith, l, left-inside (h .fits)))
+
+-- and the cursor behind it belongs
+pub record-gone : (s : List ℕ) (c : Cursor) → readRefusal s c ≡ done → Own Big s (goneTo Big s c (place c + recordBits))
+record-gone s c z = let (h, l) = read-granted s c z in gone-own Big s c h (omega (arith, l, left-stop (h .fits)))
+
+pub record-belongs : (s : List ℕ) (c : Cursor) → readRefusal s c ≡ done → cursorRefusal Big s (readOf s c .cursor) ≡ done
+unfolding readOf
+record-belongs s c z = subst (λ (r : RecordRead). cursorRefusal Big s (r .cursor) ≡ done) (if-done refl _ _ z) (own-done (record-gone s c z))
 
 -- records that are packed fit, their numbers are there, and the strip has room
 pub strip-passed : (ns : List ℕ) (n len : ℕ) → stripRefusal ns n len ≡ done → (6 * n ≤ length ns) × (stripLength n ≤ len) × (len ≤ longest) × (allFit (recordsIn n ns) ≡ true)

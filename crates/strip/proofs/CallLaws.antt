@@ -14,9 +14,9 @@ use Rattle.packing.specs.declared.State.{State}
 use Rattle.packing.specs.Packing.{put, putOut}
 use Rattle.packing.proofs.BelongsLaws.{belongs-refusal}
 use Rattle.reader.specs.declared.Cursor.{Cursor}
-use Rattle.reader.specs.Cursor.{place, stop, bitsLeft, goneTo, cursorRefusal}
+use Rattle.reader.specs.Cursor.{place, bitsLeft, goneTo, cursorRefusal}
 use Rattle.reader.specs.Answers.{newOf}
-use Rattle.reader.proofs.CursorLaws.{left-stop, refusal-own, own-done, gone-place, gone-stop, gone-own}
+use Rattle.reader.proofs.CursorLaws.{left-stop, refusal-own, own-done, gone-place, gone-stop}
 use Rattle.reader.proofs.ReadLaws.{fresh-belongs, fresh-place, fresh-left}
 use Rattle.writer.specs.declared.Writer.{Writer}
 use Rattle.writer.specs.Writer.{writerWith, padding}
@@ -29,7 +29,7 @@ use Rattle.strip.specs.Bits.{bitsOf, recordAt}
 use Rattle.strip.specs.Strip.{stripLength, stripBytes, countOf}
 use Rattle.strip.specs.Answers.{packRefusal, packOf, packOut, readRefusal, readOf}
 use Rattle.strip.specs.Calls.{Left, packEach, readTimes}
-use Rattle.strip.proofs.AnswerLaws.{pack-done, flush-done}
+use Rattle.strip.proofs.AnswerLaws.{pack-done, flush-done, record-gone}
 use Rattle.strip.proofs.MidwayLaws.{Midway, midway-fits, midway-room, midway-step, midway-length, midway-out}
 
 -- ---- packing
@@ -109,8 +109,7 @@ module _ (s : List ℕ) where
           let own = refusal-own (g .belongs) in
           let p : ℕ = place c + recordBits in
           let d : Cursor = goneTo Big s c p in
-          let inside : p ≤ stop s c = omega (arith, next-there, left-stop (own .fits)) in
-          let o = gone-own Big s c own inside in
+          let o = record-gone s c next-reads in
           let at : place d ≡ p = gone-place Big s c p in
           subst (Behind s (suc i)) (sym (ap (λ (r : RecordRead). r .cursor) next-answer))
           (record {

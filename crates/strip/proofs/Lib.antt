@@ -1,7 +1,7 @@
 pub mod BitsLaws
 pub mod FitLaws
 mod ListLaws
-mod AnswerLaws
+pub mod AnswerLaws
 pub mod PackedLaws
 pub mod MidwayLaws
 mod UnderwayLaws

@@ -99,17 +99,14 @@ pub fn bytes_refusal(len: usize, w: Writer, n: usize) -> u32
     room_refusal(len, w, 8 * n)
 }
 
-// Zeros up to a byte. The second test is the Rust's, and always true after the first, since fewer than eight bits are held.
+// Zeros up to a byte. Between calls at most seven bits are held, so where any are, a byte lacks one to seven; the Rust tests that it is not eight.
 pub fn flush(order: Order, out: &mut [u8], w: Writer) -> Writer
     requires { ⌜ Belongs (length (now out)) (stateIn w) ⌝ }
     ensures answer { λ r. ⌜ r ≡ writerWith (put order (stateIn w) (padding w) 0) ⌝ }
     ensures memory { λ _. ⌜ now (out .exit) ≡ putOut order (now (out .entry)) (stateIn w) (padding w) 0 ⌝ }
 {
     if 0 < w.held {
-        let remaining = 8 - w.held % 8;
-        if remaining != 8 {
-            return writer_with(packing::inner::put_bits(order, out, state_in(w), remaining, 0));
-        }
+        return writer_with(packing::inner::put_bits(order, out, state_in(w), 8 - w.held, 0));
     }
     w
 }
