@@ -106,3 +106,8 @@ module _ {e f : ℕ} (found : e ≡ f) where
 
     pub answer-done : e ≡ done → {u : X} → u ≡ x → answer done u ≡ answer f (ifDone f x y)
     answer-done z p = λ i. answer ((sym z ∙ found) i) ((p ∙ if-done x y z) i)
+
+-- what holds of what came, and of the answer where the call is done, holds of the answer
+pub if-holds : {X : Type 0} (P : X → Type 0) (e : ℕ) (x y : X) → P y → (e ≡ done → P (ifDone e x y)) → P (ifDone e x y)
+if-holds P e x y came then =
+    by-test (eqb e done) (λ t. then (eqb-true e done t)) (λ t. subst P (if-refused refl x y (eqb-false e done t)) came)

@@ -7,11 +7,10 @@ use native.Mathlib.Omega.{arith}
 use lib.ListN.{length, replicate, length-replicate}
 use lib.Dec.{eqb}
 use lib.IntN.{ℤ}
-use borrow.Author.Tests.{eqb-true, eqb-false}
 use Rattle.bits.specs.declared.Order.{Order}
 use Rattle.bits.specs.declared.Order.the-variants.{Big}
-use Rattle.bits.specs.Refusals.{longest, done, ifDone}
-use Rattle.bits.proofs.RefusalLaws.{if-refused}
+use Rattle.bits.specs.Refusals.{longest, done}
+use Rattle.bits.proofs.RefusalLaws.{if-holds}
 use Rattle.bits.proofs.TestLaws.{by-test}
 use Rattle.floats.specs.Floats.{singleBits, doubleBits}
 use Rattle.packing.specs.Packing.{Belongs}
@@ -37,11 +36,6 @@ use Rattle.strip.proofs.AnswerLaws.{pack-stored, record-belongs}
 use Rattle.claims.specs.Reached as Made
 use Rattle.claims.specs.Reached.{Reached, ReachedCursor, cursorOf}
 
--- what holds of what came, and of what is answered if the call is done, holds of what is answered
-answered : {X : Type 0} (P : X → Type 0) (e : ℕ) (x y : X) → P y → (e ≡ done → P (ifDone e x y)) → P (ifDone e x y)
-answered P e x y came then =
-    by-test (eqb e done) (λ t. then (eqb-true e done t)) (λ t. subst P (if-refused refl x y (eqb-false e done t)) came)
-
 -- ---- writers
 
 -- at most seven bits are held, and within the limit the writer belongs
@@ -55,11 +49,11 @@ belongs-kept {len} {w} h = (h .few, λ short. belongs-refusal len (stateIn w) h)
 module _ (s : List ℕ) where
   write-kept : (w : Writer) → Kept (length s) w → (o : Order) (n v : ℕ) → Kept (length s) (W.writeOf o (length s) w n v .writer)
   unfolding W.writeOf
-  write-kept w k o n v = answered (Kept (length s)) _ _ _ k (λ z. belongs-kept (write-stored o s w n v z .belongs))
+  write-kept w k o n v = if-holds (Kept (length s)) _ _ _ k (λ z. belongs-kept (write-stored o s w n v z .belongs))
 
   signed-kept : (w : Writer) → Kept (length s) w → (o : Order) (n : ℕ) (x : ℤ) → Kept (length s) (W.signedOf o (length s) w n x .writer)
   unfolding W.signedOf
-  signed-kept w k o n x = answered (Kept (length s)) _ _ _ k (λ z. belongs-kept (signed-stored o s w n x z .belongs))
+  signed-kept w k o n x = if-holds (Kept (length s)) _ _ _ k (λ z. belongs-kept (signed-stored o s w n x z .belongs))
 
   -- typed writes are these
   typed-kept : (w : Writer) → Kept (length s) w → (o : Order) (v : Typed) (n : ℕ) → Kept (length s) (T.writeOf o (length s) w v n .writer)
@@ -74,10 +68,10 @@ module _ (s : List ℕ) where
   all-kept Made.new = (omega arith, λ short. belongs-refusal _ _ (new-belongs (length s) short))
   all-kept (Made.write-bits {w} r o n v) = write-kept w (all-kept r) o n v
   all-kept (Made.write-signed-bits {w} r o n x) = signed-kept w (all-kept r) o n x
-  all-kept (Made.write-bytes {w} r o bs small) = answered (Kept (length s)) _ _ _ (all-kept r) (λ z. belongs-kept (bytes-stored o s w bs small z .belongs))
-  all-kept (Made.flush {w} r o) = answered (Kept (length s)) _ _ _ (all-kept r) (λ z. belongs-kept (flush-stored o s w z .belongs))
+  all-kept (Made.write-bytes {w} r o bs small) = if-holds (Kept (length s)) _ _ _ (all-kept r) (λ z. belongs-kept (bytes-stored o s w bs small z .belongs))
+  all-kept (Made.flush {w} r o) = if-holds (Kept (length s)) _ _ _ (all-kept r) (λ z. belongs-kept (flush-stored o s w z .belongs))
   all-kept (Made.write-typed {w} r o v n) = typed-kept w (all-kept r) o v n
-  all-kept (Made.pack-record {w} r x) = answered (Kept (length s)) _ _ _ (all-kept r) (λ z. belongs-kept (pack-stored s w x z .belongs))
+  all-kept (Made.pack-record {w} r x) = if-holds (Kept (length s)) _ _ _ (all-kept r) (λ z. belongs-kept (pack-stored s w x z .belongs))
 
 pub writer-kept : {len : ℕ} {w : Writer} → Reached len w → Kept len w
 writer-kept {len} {w} = subst (λ (n : ℕ). Reached n w → Kept n w) (length-replicate len 0) (all-kept (replicate len 0))
@@ -97,15 +91,15 @@ module _ (In : Order → Type 0) (s : List ℕ) (short : length s ≤ longest) (
 
   read-owned : (c : Cursor) → Owned c → (o : Order) → In o → (w : ℕ) → Owned (R.readOf o s c w .cursor)
   unfolding R.readOf
-  read-owned c k o a w = answered (λ (r : ReadU64). Owned (r .cursor)) _ _ _ k (λ z. (o, a, read-belongs o s c w z))
+  read-owned c k o a w = if-holds (λ (r : ReadU64). Owned (r .cursor)) _ _ _ k (λ z. (o, a, read-belongs o s c w z))
 
   pub cursor-owned : {c : Cursor} → ReachedCursor In s c → Owned c
   unfolding R.bytesOf R.consumeOf R.refillOf T.readOf runOf S.readOf
   cursor-owned Made.new = (p, some, fresh-belongs s short p)
   cursor-owned (Made.read-bits {c} {o} r a w) = read-owned c (cursor-owned r) o a w
-  cursor-owned (Made.read-bytes {c} {o} r a n) = answered Owned _ _ _ (cursor-owned r) (λ z. (o, a, bytes-advanced o s c n z .belongs))
-  cursor-owned (Made.consume {c} {o} r a n) = answered Owned _ _ _ (cursor-owned r) (λ z. (o, a, consume-advanced o s c n z .belongs))
-  cursor-owned (Made.refill-lookahead {c} {o} r a) = answered Owned _ _ _ (cursor-owned r) (λ z. (o, a, refill-advanced o s c z .belongs))
+  cursor-owned (Made.read-bytes {c} {o} r a n) = if-holds Owned _ _ _ (cursor-owned r) (λ z. (o, a, bytes-advanced o s c n z .belongs))
+  cursor-owned (Made.consume {c} {o} r a n) = if-holds Owned _ _ _ (cursor-owned r) (λ z. (o, a, consume-advanced o s c n z .belongs))
+  cursor-owned (Made.refill-lookahead {c} {o} r a) = if-holds Owned _ _ _ (cursor-owned r) (λ z. (o, a, refill-advanced o s c z .belongs))
   cursor-owned (Made.read-typed {c} {o} r a k w) = subst Owned (sym (typed-cursor _ _ _)) (read-owned c (cursor-owned r) o a (widthOf k w))
-  cursor-owned (Made.run {c} {o} r a q room) = answered Owned _ _ _ (cursor-owned r) (λ z. (o, a, run-belongs o s c q room z))
-  cursor-owned (Made.read-record {c} r a) = answered (λ (x : RecordRead). Owned (x .cursor)) _ _ _ (cursor-owned r) (λ z. (Big, a, record-belongs s c z))
+  cursor-owned (Made.run {c} {o} r a q room) = if-holds Owned _ _ _ (cursor-owned r) (λ z. (o, a, run-belongs o s c q room z))
+  cursor-owned (Made.read-record {c} r a) = if-holds (λ (x : RecordRead). Owned (x .cursor)) _ _ _ (cursor-owned r) (λ z. (Big, a, record-belongs s c z))
