@@ -66,6 +66,17 @@ fn main() {
         let flushed = BitWriter::flush(&mut w).is_ok();
         format!("write done: {wrote}, flush done: {flushed}, {:02x?}", w.get_ref().held)
     });
+    shown("write_f32(1.0), big endian", || {
+        let mut out = Vec::new();
+        let mut w = BigEndianWriter::new(&mut out);
+        w.write_f32(1.0).unwrap();
+        drop(w);
+        format!("{out:02x?}")
+    });
+    shown("f64::from of the NaN patterns 7f800001 and ffc01234", || {
+        let wide = |b| f64::from(f32::from_bits(b)).to_bits();
+        format!("{:x} {:x}", wide(0x7f80_0001), wide(0xffc0_1234))
+    });
     shown("the NaN pattern 7fc01234 read as a single", || format!("{:x}", LittleEndianReader::new(&[0x34, 0x12, 0xc0, 0x7f]).read_f32().unwrap().to_bits()));
     shown("bits_remaining of one byte", || format!("{:?}", LittleEndianReader::new(&[0xff]).bits_remaining()));
 }

@@ -301,7 +301,7 @@ fn answer(m: &mut Machine, line: &str, out: &mut String) {
                     4 => w.write_i16(v as i16),
                     5 => w.write_u32(v as u32),
                     6 => w.write_i32(v as i32),
-                    7 => w.write_f32(f32::from_bits(v as u32)),
+                    7 => panic!("write_f32 is outside the domain"),
                     8 => w.write_u64(v),
                     9 => w.write_i64(v as i64),
                     _ => w.write_f64(f64::from_bits(v)),
@@ -331,6 +331,12 @@ fn answer(m: &mut Machine, line: &str, out: &mut String) {
             let v = bitter::sign_extend(hex(a), hex(b) as u32);
             write!(out, "0 {:x}", v as u64).unwrap()
         }
+        // NaNs apart, which all become one
+        "d" => {
+            let x = f32::from_bits(hex(a) as u32);
+            let v = if x.is_nan() { 0x7ff8_0000_0000_0000 } else { f64::from(x).to_bits() };
+            write!(out, "0 {v:x}").unwrap()
+        }
         _ => (),
     }
 }
@@ -351,7 +357,7 @@ fn answers(script: &str) -> String {
 }
 
 fn asks(line: &str) -> bool {
-    line.starts_with(|c| "nbsfqhpcrymNwxFYuzoe".contains(c))
+    line.starts_with(|c| "nbsfqhpcrymNwxFYuzoed".contains(c))
 }
 
 // ---- making scripts
@@ -567,9 +573,10 @@ fn make_writes(f: &mut Files, rng: &mut Random, count: usize) {
                     (format!("x {:x} {:x}", w, rng.next()), w)
                 }
                 6 | 7 => {
-                    let k = rng.below(11);
+                    // all but write_f32
+                    let k = rng.pick(&[0, 1, 2, 3, 4, 5, 6, 8, 9, 10]);
                     let w = [1, 8, 8, 16, 16, 32, 32, 32, 64, 64, 64][k as usize];
-                    let v = if k == 7 || k == 10 { rng.float(k) } else { rng.value(w as u32) };
+                    let v = if k == 10 { rng.float(k) } else { rng.value(w as u32) };
                     (format!("F {k:x} {v:x}"), w)
                 }
                 8 | 9 => {
@@ -639,6 +646,28 @@ fn make_signs(f: &mut Files, rng: &mut Random) {
     f.end();
 }
 
+// Singles as doubles: both signs of every exponent with the ends of its digits, so zeros, subnormals, normal numbers, infinities and NaNs,
+// quiet and signalling; then at random, subnormals and NaNs more often than chance has them.
+fn make_singles(f: &mut Files, rng: &mut Random, count: usize) {
+    for sign in [0u64, 0x8000_0000] {
+        for exponent in 0..256u64 {
+            for digits in [0, 1, 0x3f_ffff, 0x40_0000, 0x7f_ffff] {
+                writeln!(f.text, "d {:x}", sign | exponent << 23 | digits).unwrap();
+            }
+        }
+    }
+    while f.count < count {
+        let v = match rng.below(8) {
+            0 => rng.next() & 0x807f_ffff,
+            1 => rng.float(7),
+            _ => rng.next() & 0xffff_ffff,
+        };
+        f.room(11);
+        writeln!(f.text, "d {v:x}").unwrap();
+    }
+    f.text.clear();
+}
+
 fn make(args: &[String]) {
     let (dir, kind, seed, count) = (&args[0], &args[1], args[2].parse::<u64>().unwrap(), args[3].parse::<usize>().unwrap());
     let mut rng = Random(seed.wrapping_mul(0x9E37_79B9_7F4A_7C15) | 1);
@@ -649,6 +678,7 @@ fn make(args: &[String]) {
         "writes" => make_writes(&mut f, &mut rng, count),
         "held" => make_held(&mut f, &mut rng),
         "signs" => make_signs(&mut f, &mut rng),
+        "singles" => make_singles(&mut f, &mut rng, count),
         _ => panic!("no such kind: {kind}"),
     }
 }

@@ -31,6 +31,20 @@ def pattern(z):
     return z % (1 << 64)
 
 
+def widened(b):
+    """the bits of the double with the value of the single that has the bits b: sign, exponent and digits by IEEE 754, one NaN"""
+    sign, exponent, digits = b >> 31, b >> 23 & 255, b & 0x7FFFFF
+    if exponent == 255:
+        return 0x7FF8000000000000 if digits else sign << 63 | 2047 << 52
+    if exponent == 0:
+        if digits == 0:
+            return sign << 63
+        # a subnormal: its leading one moves to the place above the digits
+        shift = 24 - digits.bit_length()
+        exponent, digits = 1 - shift, (digits << shift) - (1 << 23)
+    return sign << 63 | exponent - 127 + 1023 << 52 | digits << 29
+
+
 # ---- cursors: (offset, lookahead, register)
 
 def register(little, s, offset, lookahead):
@@ -148,9 +162,13 @@ class Machine:
             self.put(self.bits_of(w, z % (1 << w)))
         return self.wrote(e)
 
+    # a single is written no more: 16 behind what refuses its 32 bits
+    def write_single(self):
+        return self.wrote(self.of_writer() or self.room(32) or 16)
+
     def answer(self, line):
         letter, words = line[0], line[1:].strip(" ").split(" ")
-        if letter not in "LBSOCDnbsfqhpcrymkNwxFYuzoKe":
+        if letter not in "LBSOCDnbsfqhpcrymkNwxFYuzoKed":
             return None
         number = lambda i: int(words[i], 16) if i < len(words) and words[i] else 0
         a, b, c = number(0) if letter not in "SY" else 0, number(1), number(2)
@@ -226,6 +244,8 @@ class Machine:
         elif letter == "x":
             return self.write_signed(narrow(a), signed(64, b))
         elif letter == "F":
+            if a == 7:
+                return self.write_single()
             w = [1, 8, 8, 16, 16, 32, 32, 32, 64, 64, 64][min(a, 10)]
             return self.write(w, int(b == 1) if a == 0 else b % (1 << w))
         elif letter == "Y":
@@ -250,6 +270,8 @@ class Machine:
         elif letter == "e":
             e = (3 if b > 64 else 0) or (4 if a >= 1 << b else 0)
             return "%x %x" % (e, 0 if e else pattern(signed(b, a)))
+        elif letter == "d":
+            return "0 %x" % widened(a % (1 << 32))
         return None
 
 
@@ -335,6 +357,12 @@ def refusals():
                     yield call
                     yield "o"
                     yield "K"
+    # singles, and 32 bits that are none, where there is room for 31, 32 and 33 bits
+    for little in (True, False):
+        yield "LB"[not little]
+        for written, held in ((1, 1), (1, 0), (0, 7)):
+            for call in ("F 7 3f800000", "F 7 7fa00001", "F 5 3f800000", "w 20 3f800000"):
+                yield from ("O 5 a5", "D %x %x 0" % (written, held), call, "o", "K")
     for w in (0, 1, 2, 4, 63, 64, 65, 1000, (1 << 32) - 1):
         for v in sorted({0, 1, 7, 8, 15, 16, (1 << min(w, 64)) - 1, min(1 << min(w, 64), (1 << 64) - 1), 1 << 63, (1 << 64) - 1}):
             yield "e %x %x" % (v, w)

@@ -29,6 +29,13 @@ module _ (a b : ℕ) where
       by true p e = (eqb-true a 0 p, e)
       by false p e = absurd (eqb-false a 0 p e)
 
+-- a refusal behind two is one behind the first of them
+pub orElse-behind : (a b c : ℕ) → orElse a (orElse b c) ≡ orElse (orElse a b) c
+orElse-behind a b c =
+    by-test (eqb a done)
+    (λ t. let z = eqb-true a done t in orElse-second a (orElse b c) z ∙ rw (orElse-second a b z) refl)
+    (λ t. let h = eqb-false a done t in orElse-first a (orElse b c) h ∙ rw (orElse-first a b h) (sym (orElse-first a c h)))
+
 -- ---- tables
 
 -- no row of a table refuses

@@ -53,6 +53,10 @@ pastLookahead = 10
 abbrev pub badRow : ℕ
 badRow = 11
 
+-- a write of a retired kind: a single
+abbrev pub retiredKind : ℕ
+retiredKind = 16
+
 -- the longest byte slice that a call takes
 abbrev pub longest : ℕ
 longest = 16777216

@@ -23,5 +23,7 @@ pub const PAST_LOOKAHEAD: u32 = 10;
 
 pub const BAD_ROW: u32 = 11;
 
+pub const RETIRED_KIND: u32 = 16;
+
 // The longest byte slice that a call takes.
 pub const LONGEST: usize = 16_777_216;

@@ -31,10 +31,15 @@ use Rattle.writer.specs.declared.Wrote.{Wrote}
 use Rattle.writer.specs.Writer.{stateIn}
 use Rattle.writer.specs.Answers as W
 use Rattle.writer.proofs.WriteLaws.{Stored, write-stored, signed-stored, bytes-stored, flush-stored}
-use Rattle.packing.proofs.BelongsLaws.{belongs-refusal, many-held}
+use Rattle.packing.proofs.BelongsLaws.{belongs-refusal, refusal-belongs, many-held}
+use Rattle.writer.proofs.AnswerLaws.{single-refused, write-accepted}
 use Rattle.inplace.proofs.Theorems.{consume-refused, refill-refused}
 use Rattle.floats.proofs.FloatLaws.{single-same, double-same, single-plain, double-plain}
-use Rattle.typed.proofs.Theorems.{bits-kept, kind-kept, read-done, read-refused as typed-refused, typed-back}
+use Rattle.floats.proofs.WideningLaws.{exact, plus-zero, minus-zero, plus-infinity, minus-infinity, nan-widened}
+use Rattle.floats.proofs.WideningNumbers.{exact-numbers}
+use Rattle.typed.specs.Typed.{widenedTyped}
+use Rattle.typed.specs.Answers as T
+use Rattle.typed.proofs.Theorems.{bits-kept, kind-kept, read-done, read-refused as typed-refused, typed-back, others-kept, wide-lt, wide-back}
 use Rattle.typed.proofs.SameLaws.{same-exactly}
 use Rattle.layout.specs.Layout.{Item, itemsOf, areLayout, isLayout, bitsOf}
 use Rattle.layout.specs.Plan.{compile, decode}
@@ -241,6 +246,33 @@ typed-same = same-exactly
 
 pub typed-read-back : C.TypedBack
 typed-read-back = typed-back
+
+-- ---- singles
+
+pub singles-retired : C.SinglesRetired
+unfolding W.retiredOf W.writeOf T.writeOf T.writeOut
+singles-retired o s w x n v h = (ap (λ (e : ℕ). record { refusal = e; writer = w }) (single-refused (length s) w v h), refl, refl)
+
+pub widened-exact : C.WidenedExact
+widened-exact = exact
+
+pub widened-numbers : C.WidenedNumbers
+widened-numbers = exact-numbers
+
+pub widened-others : C.WidenedOthers
+widened-others x = (plus-zero x, minus-zero x, plus-infinity x, minus-infinity x, nan-widened x)
+
+pub widened-read-back : C.WidenedBack
+unfolding W.writeOf
+widened-read-back o s w x = (
+  wide-lt x,
+  λ own room. write-accepted (length s) w 64 _ (omega arith) (wide-lt x) (record { belongs = refusal-belongs (length s) (stateIn w) own; enough = room }),
+  wide-back o s w x,
+)
+
+pub typed-widened : C.TypedWidened
+unfolding widenedTyped
+typed-widened = (λ x. refl, others-kept)
 
 -- ---- plans
 

@@ -12,7 +12,7 @@ use Rattle.bits.specs.declared.Order.the-variants.{Big}
 use Rattle.bits.specs.Refusals.{longest, done}
 use Rattle.bits.proofs.RefusalLaws.{if-holds}
 use Rattle.bits.proofs.TestLaws.{by-test}
-use Rattle.floats.specs.Floats.{singleBits, doubleBits}
+use Rattle.floats.specs.Floats.{doubleBits}
 use Rattle.packing.specs.Packing.{Belongs}
 use Rattle.packing.proofs.BelongsLaws.{belongs-refusal}
 use Rattle.reader.specs.declared.Cursor.{Cursor}
@@ -55,19 +55,20 @@ module _ (s : List ℕ) where
   unfolding W.signedOf
   signed-kept w k o n x = if-holds (Kept (length s)) _ _ _ k (λ z. belongs-kept (signed-stored o s w n x z .belongs))
 
-  -- typed writes are these
+  -- typed writes are these, and a single leaves the writer that came
   typed-kept : (w : Writer) → Kept (length s) w → (o : Order) (v : Typed) (n : ℕ) → Kept (length s) (T.writeOf o (length s) w v n .writer)
-  unfolding T.writeOf
+  unfolding T.writeOf W.retiredOf
   typed-kept w k o (Case.Unsigned v) n = write-kept w k o n v
   typed-kept w k o (Case.Signed x) n = signed-kept w k o n x
-  typed-kept w k o (Case.Single x) n = write-kept w k o 32 (singleBits x)
+  typed-kept w k o (Case.Single x) n = k
   typed-kept w k o (Case.Double x) n = write-kept w k o 64 (doubleBits x)
 
   all-kept : {w : Writer} → Reached (length s) w → Kept (length s) w
-  unfolding W.newOf W.bytesOf W.flushOf S.packOf
+  unfolding W.newOf W.retiredOf W.bytesOf W.flushOf S.packOf
   all-kept Made.new = (omega arith, λ short. belongs-refusal _ _ (new-belongs (length s) short))
   all-kept (Made.write-bits {w} r o n v) = write-kept w (all-kept r) o n v
   all-kept (Made.write-signed-bits {w} r o n x) = signed-kept w (all-kept r) o n x
+  all-kept (Made.write-f32 r) = all-kept r
   all-kept (Made.write-bytes {w} r o bs small) = if-holds (Kept (length s)) _ _ _ (all-kept r) (λ z. belongs-kept (bytes-stored o s w bs small z .belongs))
   all-kept (Made.flush {w} r o) = if-holds (Kept (length s)) _ _ _ (all-kept r) (λ z. belongs-kept (flush-stored o s w z .belongs))
   all-kept (Made.write-typed {w} r o v n) = typed-kept w (all-kept r) o v n

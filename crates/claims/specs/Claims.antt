@@ -9,10 +9,10 @@ use lib.IntN.{ℤ}
 use lib.ListN.{length, take, drop, getD}
 use lib.Dec.{leb}
 use lib.Seq.{sets}
-use lib.Ieee.{binary32, binary64, nanBits}
+use lib.Ieee.{binary32, binary64, nanBits, ofBits}
 use Rattle.bits.specs.declared.Order.{Order}
 use Rattle.bits.specs.declared.Order.the-variants.{Big}
-use Rattle.bits.specs.Refusals.{longest, done, foreign, badPlan, badLine, tooFew, badRow}
+use Rattle.bits.specs.Refusals.{longest, done, foreign, badPlan, badLine, tooFew, badRow, retiredKind, orElse}
 use Rattle.bits.specs.Field.{field, join}
 use Rattle.bits.specs.Signed.{signed, pattern}
 use Rattle.packing.specs.Packing.{filled, story}
@@ -31,10 +31,13 @@ use Rattle.floats.specs.declared.Single.the-variants.{Bits as Single·Bits}
 use Rattle.floats.specs.declared.Double.{Double}
 use Rattle.floats.specs.declared.Double.the-variants.{Bits as Double·Bits}
 use Rattle.floats.specs.Floats.{singleOf, singleBits, sameSingle, SingleHeld, doubleOf, doubleBits, sameDouble, DoubleHeld}
+use Rattle.floats.specs.Widening.{widened, minusIn, exponentIn, sizeIn}
 use Rattle.typed.specs.declared.Kind.{Kind}
+use Rattle.typed.specs.declared.Kind.the-variants as Kinds
 use Rattle.typed.specs.declared.Typed.{Typed}
+use Rattle.typed.specs.declared.Typed.the-variants as Case
 use Rattle.typed.specs.declared.TypedRead.the-variants.{Done, Refused}
-use Rattle.typed.specs.Typed.{typedOf, bitsOf as typedBits, kindOf, sameTyped, widthOf, meaning, Fits as TypedFits}
+use Rattle.typed.specs.Typed.{typedOf, bitsOf as typedBits, kindOf, sameTyped, widenedTyped, widthOf, meaning, Fits as TypedFits}
 use Rattle.typed.specs.Answers as T
 use Rattle.roundtrip.specs.Mixed as Trip
 use Rattle.layout.specs.Layout.{Item, item, itemsOf, areLayout, isLayout, bitsOf}
@@ -281,6 +284,61 @@ TypedBack =
     let back = meaning (kindOf v) n (typedBits v % 2 ^ k) in
     (c : Cursor) → cursorRefusal o t c ≡ done → place c ≡ bitsWritten w → k ≤ bitsLeft t c →
     (T.readOf o t c (kindOf v) n ≡ Done back (R.readOf o t c k .cursor)) × (TypedFits n v → sameTyped back v ≡ true)
+
+-- ---- singles: read as they were, written no more, and made doubles
+
+-- a single is not written, typed or not: it is refused as 32 bits v are, and with 16 where these would be written; writer and output stay
+-- as they came
+abbrev pub SinglesRetired : Type 0
+SinglesRetired =
+    (o : Order) (s : List ℕ) (w : Writer) (x : Single) (n v : ℕ) → v < 2 ^ 32 →
+    (W.retiredOf (length s) w ≡ record { refusal = orElse (W.writeOf o (length s) w 32 v .refusal) retiredKind; writer = w })
+    × (T.writeOf o (length s) w (Case.Single x) n ≡ W.retiredOf (length s) w)
+    × (T.writeOut o s w (Case.Single x) n ≡ s)
+
+-- the double of a single means the same: its 64 bits mean by IEEE 754 what the single's 32 bits mean
+abbrev pub WidenedExact : Type 0
+WidenedExact = (x : Single) → ofBits binary64 (doubleBits (widened x)) ≡ ofBits binary32 (singleBits x)
+
+-- the same in whole numbers, b the single's bits and d the double's: finite stays finite, with the same sign and the same size. Sizes are
+-- counted in the format's smallest number, and 2 ^ -149 is 2 ^ 925 times 2 ^ -1074
+abbrev pub WidenedNumbers : Type 0
+WidenedNumbers =
+    (x : Single) →
+    let b = singleBits x in
+    let d = doubleBits (widened x) in
+    exponentIn binary32 b < 255 →
+    (exponentIn binary64 d < 2047) × (minusIn binary64 d ≡ minusIn binary32 b) × (sizeIn binary64 d ≡ sizeIn binary32 b * 2 ^ 925)
+
+-- zeros and infinities keep their sign, and every NaN becomes the one
+abbrev pub WidenedOthers : Type 0
+WidenedOthers =
+    (x : Single) →
+    let b = singleBits x in
+    let d = doubleBits (widened x) in
+    (b ≡ 0x0000_0000 → d ≡ 0x0000_0000_0000_0000)
+    × (b ≡ 0x8000_0000 → d ≡ 0x8000_0000_0000_0000)
+    × (b ≡ 0x7F80_0000 → d ≡ 0x7FF0_0000_0000_0000)
+    × (b ≡ 0xFF80_0000 → d ≡ 0xFFF0_0000_0000_0000)
+    × (nanBits binary32 b ≡ true → d ≡ 0x7FF8_0000_0000_0000)
+
+-- the double's bits are 64, which are written wherever 64 bits have room; flushed, they are read where they were written as that double
+abbrev pub WidenedBack : Type 0
+WidenedBack =
+    (o : Order) (s : List ℕ) (w : Writer) (x : Single) →
+    let d = doubleBits (widened x) in
+    let r = W.writeOf o (length s) w 64 d in
+    let t = W.flushOut o (W.writeOut o s w 64 d) (r .writer) in
+    (d < 2 ^ 64)
+    × (writerRefusal (length s) w ≡ done → bitsWritten w + 64 ≤ 8 * length s → r .refusal ≡ done)
+    × (r .refusal ≡ done → (c : Cursor) → cursorRefusal o t c ≡ done → place c ≡ bitsWritten w → 64 ≤ bitsLeft t c
+    → (R.asF64 (R.readOf o t c 64) .refusal ≡ done) × (R.asF64 (R.readOf o t c 64) .value ≡ widened x))
+
+-- a typed single becomes the typed double, and a value of another kind is kept
+abbrev pub TypedWidened : Type 0
+TypedWidened =
+    ((x : Single) → widenedTyped (Case.Single x) ≡ Case.Double (widened x))
+    × ((v : Typed) → (kindOf v ≡ Kinds.Single → ⊥) → widenedTyped v ≡ v)
 
 -- ---- demand 3: a compiled layout is run to its fields' values
 

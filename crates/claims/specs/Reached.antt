@@ -21,12 +21,13 @@ use Rattle.plan.specs.Run.{runOf}
 use Rattle.record.specs.declared.Record.{Record}
 use Rattle.strip.specs.Answers as S
 
--- the writers of an output of len bytes, whatever these hold at each call; a fixed width, a bit and a float are `write-bits` or
+-- the writers of an output of len bytes, whatever these hold at each call; a fixed width, a bit and a double are `write-bits` or
 -- `write-signed-bits` at their width
 pub data Reached (len : ℕ) : Writer → Type 0 where
   new : Reached len (W.newOf len .writer)
   write-bits : {w : Writer} → Reached len w → (o : Order) (n v : ℕ) → Reached len (W.writeOf o len w n v .writer)
   write-signed-bits : {w : Writer} → Reached len w → (o : Order) (n : ℕ) (z : ℤ) → Reached len (W.signedOf o len w n z .writer)
+  write-f32 : {w : Writer} → Reached len w → Reached len (W.retiredOf len w .writer)
   write-bytes : {w : Writer} → Reached len w → (o : Order) (bs : List ℕ) → ((i : ℕ) → getD bs i 0 < 256) → Reached len (W.bytesOf o len w bs .writer)
   flush : {w : Writer} → Reached len w → (o : Order) → Reached len (W.flushOf o len w .writer)
   write-typed : {w : Writer} → Reached len w → (o : Order) (v : Typed) (n : ℕ) → Reached len (T.writeOf o len w v n .writer)

@@ -242,8 +242,8 @@ fn wide_writes() {
     let mut out = [0u8; 8];
 
     let one = floats::single_of_bits(0x3f80_0000);
-    let _wrote = blank.write_f32(Order::Big, &mut out, one);
-    expect(b"write_f32", out[0] == 0x3f);
+    let wrote = blank.write_f32(Order::Big, &mut out, one);
+    expect(b"write_f32", wrote.refusal == 16);
 
     let _wrote = blank.write_u64(Order::Big, &mut out, 0x0001_0203_0405_0607);
     expect(b"write_u64", out[7] == 7);
@@ -298,6 +298,11 @@ fn floats_and_signs() {
     let zero = floats::double_of_bits(0);
     let minus = floats::double_of_bits(0x8000_0000_0000_0000);
     expect(b"same_double", !floats::same_double(zero, minus));
+
+    let least = floats::single_of_bits(1);
+    let same = floats::double_of_single(least);
+    let bits = floats::bits_of_double(same);
+    expect(b"double_of_single", bits == 0x36a0_0000_0000_0000);
 }
 
 fn typed_values() {
@@ -311,6 +316,11 @@ fn typed_values() {
 
     let near = typed::typed_of_bits(Kind::Unsigned, 0xffff_ffff_ffff_fffe);
     expect(b"same_typed", !typed::same_typed(two, near));
+
+    let zero = typed::typed_of_bits(Kind::Single, 0x8000_0000);
+    let wide = typed::widen_typed(zero);
+    let bits = typed::bits_of_typed(wide);
+    expect(b"widen_typed", bits == 0x8000_0000_0000_0000);
 
     let _wrote = typed::write_typed(blank, Order::Big, &mut out, two, 8);
     expect(b"write_typed", out[0] == 0xfe);

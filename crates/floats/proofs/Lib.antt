@@ -1,2 +1,4 @@
 pub mod Nans
 pub mod FloatLaws
+pub mod WideningLaws
+pub mod WideningNumbers

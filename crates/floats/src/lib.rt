@@ -2,6 +2,7 @@
 // a number, or bits. A value means its bits: two values are the same float exactly if their bits are.
 ghost use mathlib.Core.Path.{_≡_};
 ghost use Rattle.floats.specs.Floats.{singleOf, singleBits, sameSingle, doubleOf, doubleBits, sameDouble};
+ghost use Rattle.floats.specs.Widening.{widened};
 
 // A number of 32 bits, or the 32 bits of a NaN. `Bits` that are no NaN's are the number with these bits; no read gives them.
 pub enum Single {
@@ -93,4 +94,22 @@ pub fn same_double(a: Double, b: Double) -> bool
     ensures { λ r. ⌜ r ≡ sameDouble a b ⌝ }
 {
     bits_of_double(a) == bits_of_double(b)
+}
+
+// A single as the double that means the same: the same number, a zero or an infinity with its sign, and for every NaN, whatever its
+// payload, the one with the bits 0x7FF8000000000000.
+//     let least = floats::single_of_bits(1);
+//     let same = floats::double_of_single(least);
+//     let bits = floats::bits_of_double(same);
+//     expect(b"double_of_single", bits == 0x36a0_0000_0000_0000);
+pub fn double_of_single(value: Single) -> Double
+    ensures { λ r. ⌜ r ≡ widened value ⌝ }
+{
+    let pattern = bits_of_single(value);
+    if 0x7f80_0000 < pattern % 0x8000_0000 {
+        return Double::Bits(0x7ff8_0000_0000_0000);
+    }
+    let number = f32::from_bits(pattern);
+    let wide = number as f64;
+    Double::Number(wide)
 }

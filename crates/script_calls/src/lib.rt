@@ -76,11 +76,23 @@ fn run_line(
     }
 }
 
-// What a letter calls: sign extension is answered beside the calls on the cursor.
+// What a letter calls: sign extension and the double of a single are answered beside the calls on the cursor.
 fn target_of(letter: u8) -> Target {
     match letter {
-        b'n' | b'b' | b's' | b'f' | b'q' | b'h' | b'p' | b'c' | b'r' | b'y' | b'm' | b'k' | b'e' =>
-            Target::Cursor,
+        b'n'
+        | b'b'
+        | b's'
+        | b'f'
+        | b'q'
+        | b'h'
+        | b'p'
+        | b'c'
+        | b'r'
+        | b'y'
+        | b'm'
+        | b'k'
+        | b'e'
+        | b'd' => Target::Cursor,
         b'N' | b'w' | b'x' | b'F' | b'Y' | b'u' | b'z' | b'o' | b'K' => Target::Writer,
         _ => Target::Nothing,
     }
@@ -136,7 +148,7 @@ fn given_writer(l: Line) -> Writer {
     }
 }
 
-// Runs a call on the cursor, or sign extension.
+// Runs a call on the cursor, sign extension, or the change of a single into a double.
 fn on_cursor(l: Line, m: Machine, all: &[u8], buf: &mut [u8], line: &mut [u8]) -> Done
     ensures { λ r. ⌜ r .length ≤ length (now (line .entry)) ⌝ }
 {

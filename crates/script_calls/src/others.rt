@@ -40,6 +40,10 @@ pub fn read(
             cursor: c,
             length: remainder(c, order, src, line),
         },
+        b'd' => Read {
+            cursor: c,
+            length: widen(a, line),
+        },
         _ => reads::call(letter, a, b, order, c, src, buf, line),
     }
 }
@@ -94,6 +98,15 @@ fn remainder(c: Cursor, order: Order, src: &[u8], line: &mut [u8]) -> usize
     let end = reads::told(line, told.refusal, value, c);
     let start = before_last(src, rest.length);
     words::put_next_bytes(line, end, &src[start..])
+}
+
+// The typed double of a typed single, both by their bits.
+fn widen(bits: u64, line: &mut [u8]) -> usize
+    ensures { λ n. ⌜ n ≤ length (now (line .entry)) ⌝ }
+{
+    let value = typed::typed_of_bits(Kind::Single, bits);
+    let wide = typed::widen_typed(value);
+    words::put_two(line, 0, typed::bits_of_typed(wide))
 }
 
 // The place of the last n bytes, or 0 where there are fewer.

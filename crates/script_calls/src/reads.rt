@@ -1,4 +1,4 @@
-// Calls on the cursor, and sign extension.
+// Calls on the cursor, sign extension, and the double of a single.
 use bits::Order;
 use reader::Cursor;
 use reader::ReadU64;
@@ -41,6 +41,10 @@ pub fn call(
         b'e' => Read {
             cursor: c,
             length: extend(a, b, line),
+        },
+        b'd' => Read {
+            cursor: c,
+            length: widen(a, line),
         },
         _ => told_of(answer(letter, a, c, order, src), line),
     }
@@ -225,6 +229,15 @@ fn extend(value: u64, width: u64, line: &mut [u8]) -> usize
 {
     let r = sign::sign_extend(value, crate::narrow(width));
     words::put_two(line, r.refusal as u64, sign::inner::bits_of_signed(r.value))
+}
+
+// double_of_single, both by their bits: `0 value`.
+fn widen(bits: u64, line: &mut [u8]) -> usize
+    ensures { λ n. ⌜ n ≤ length (now (line .entry)) ⌝ }
+{
+    let single = floats::single_of_bits((bits % 0x1_0000_0000) as u32);
+    let double = floats::double_of_single(single);
+    words::put_two(line, 0, floats::bits_of_double(double))
 }
 
 // An answer's cursor, and its line.

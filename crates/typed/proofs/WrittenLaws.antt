@@ -13,7 +13,7 @@ use Rattle.floats.specs.Floats.{singleOf, singleBits, doubleOf, doubleBits}
 use Rattle.floats.proofs.FloatLaws.{single-kept, double-kept, single-bits-lt, double-bits-lt}
 use Rattle.writer.specs.declared.Writer.{Writer}
 use Rattle.writer.specs.Answers as W
-use Rattle.writer.proofs.AnswerLaws.{Room, write-passed, signed-passed}
+use Rattle.writer.proofs.AnswerLaws.{Room, write-passed, signed-passed, single-never}
 use Rattle.writer.proofs.WriteLaws.{Stored, write-stored, signed-stored}
 use Rattle.roundtrip.proofs.ItemLaws.{in-range}
 use Rattle.typed.specs.declared.Typed.{Typed}
@@ -30,21 +30,21 @@ writtenBits v n = bitsOf v % 2 ^ widthOf (kindOf v) n
 module _ (o : Order) (s : List ℕ) (w : Writer) where
   pub typed-passed : (v : Typed) (n : ℕ) → writeOf o (length s) w v n .refusal ≡ done
       → (widthOf (kindOf v) n ≤ 64) × Room (length s) w (widthOf (kindOf v) n)
-  unfolding writeOf widthOf kindOf W.writeOf W.signedOf
+  unfolding writeOf widthOf kindOf W.writeOf W.signedOf W.retiredOf
   typed-passed (T.Unsigned m) n z = write-passed (length s) w n m z
   typed-passed (T.Signed x) n z = signed-passed (length s) w n x z
-  typed-passed (T.Single x) n z = write-passed (length s) w 32 (singleBits x) z
+  typed-passed (T.Single x) n z = absurd (single-never (length s) w z)
   typed-passed (T.Double x) n z = write-passed (length s) w 64 (doubleBits x) z
 
   pub typed-stored : (v : Typed) (n : ℕ) → writeOf o (length s) w v n .refusal ≡ done
       → Stored o s w (widthOf (kindOf v) n) (writtenBits v n) (writeOut o s w v n) (writeOf o (length s) w v n)
-  unfolding writeOf writeOut bitsOf widthOf kindOf W.writeOf W.signedOf
+  unfolding writeOf writeOut bitsOf widthOf kindOf W.writeOf W.signedOf W.retiredOf
   typed-stored (T.Unsigned m) n z = write-stored o s w n m z
   typed-stored (T.Signed x) n z =
       subst (λ (b : ℕ). Stored o s w n b (W.signedOut o s w n x) (W.signedOf o (length s) w n x))
       (sym (pattern-low n x (signed-passed (length s) w n x z .0)))
       (signed-stored o s w n x z)
-  typed-stored (T.Single x) n z = write-stored o s w 32 (singleBits x) z
+  typed-stored (T.Single x) n z = absurd (single-never (length s) w z)
   typed-stored (T.Double x) n z = write-stored o s w 64 (doubleBits x) z
 
 -- a value that fits is the same again

@@ -4,6 +4,7 @@ use mathlib.Core.Bool.{Bool, _&&_}
 use lib.Dec.{eqb}
 use Rattle.bits.specs.Signed.{signed, pattern}
 use Rattle.floats.specs.Floats.{singleOf, singleBits, SingleHeld, doubleOf, doubleBits, DoubleHeld}
+use Rattle.floats.specs.Widening.{widened}
 use Rattle.roundtrip.specs.Mixed.{InRange}
 use Rattle.typed.specs.declared.Kind.{Kind}
 use Rattle.typed.specs.declared.Kind.the-variants as K
@@ -41,6 +42,13 @@ numberOf K.Double = 3
 -- whether two typed values are the same: of one kind, and with the same bits
 unfoldable pub sameTyped : Typed → Typed → Bool
 sameTyped a b = eqb (numberOf (kindOf a)) (numberOf (kindOf b)) && eqb (bitsOf a) (bitsOf b)
+
+-- a single as the double that means the same, a value of another kind as it is
+unfoldable pub widenedTyped : Typed → Typed
+widenedTyped (T.Unsigned n) = T.Unsigned n
+widenedTyped (T.Signed z) = T.Signed z
+widenedTyped (T.Single x) = T.Double (widened x)
+widenedTyped (T.Double x) = T.Double x
 
 -- the number of bits that a value of a kind takes: the width that is asked for, or 32, or 64
 unfoldable pub widthOf : Kind → ℕ → ℕ

@@ -8,7 +8,7 @@ use writer::Writer;
 use writer::Wrote;
 ghost use mathlib.Core.Path.{_≡_};
 ghost use lib.ListN.{length};
-ghost use Rattle.typed.specs.Typed.{typedOf, bitsOf, kindOf, numberOf, sameTyped};
+ghost use Rattle.typed.specs.Typed.{typedOf, bitsOf, kindOf, numberOf, sameTyped, widenedTyped};
 ghost use Rattle.typed.specs.Answers.{answered, readOf, writeOf, writeOut};
 
 // The four kinds.
@@ -89,6 +89,22 @@ fn kind_number(value: Typed) -> u32
     }
 }
 
+// A single as the double that means the same, all NaNs as one (`floats::double_of_single`); a value of another kind as it is.
+//     let zero = typed::typed_of_bits(Kind::Single, 0x8000_0000);
+//     let wide = typed::widen_typed(zero);
+//     let bits = typed::bits_of_typed(wide);
+//     expect(b"widen_typed", bits == 0x8000_0000_0000_0000);
+pub fn widen_typed(value: Typed) -> Typed
+    ensures { λ r. ⌜ r ≡ widenedTyped value ⌝ }
+{
+    match value {
+        Typed::Unsigned(n) => Typed::Unsigned(n),
+        Typed::Signed(z) => Typed::Signed(z),
+        Typed::Single(x) => Typed::Double(floats::double_of_single(x)),
+        Typed::Double(x) => Typed::Double(x),
+    }
+}
+
 // Reads a value of a kind; the width is that of an unsigned or signed one, and else not looked at. Refusals 1, 2, 3 and 9.
 //     let read = typed::read_typed(start, Order::Big, b"\xfe", Kind::Signed, 8);
 //     expect(b"read_typed", bits_read(read) == 0xffff_ffff_ffff_fffe);
@@ -133,7 +149,7 @@ fn answer(refusal: u32, value: Typed, cursor: Cursor) -> TypedRead
 }
 
 // Writes a typed value; its case is its kind, and the width is that of an unsigned or signed one, else not looked at. Refusals as for
-// the write beneath: 1, 2, 3, 4 and 8.
+// the write beneath: 1, 2, 3, 4 and 8; of a single 16, where it is not 1, 2 or 8.
 //     let _wrote = typed::write_typed(blank, Order::Big, &mut out, two, 8);
 //     expect(b"write_typed", out[0] == 0xfe);
 pub fn write_typed(writer: Writer, order: Order, out: &mut [u8], value: Typed, width: u32) -> Wrote

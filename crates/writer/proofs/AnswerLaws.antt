@@ -9,15 +9,15 @@ use lib.IntN.{ℤ}
 use lib.ListN.{length}
 use borrow.Author.Tests.{le-ltb, lt-leb}
 use Rattle.bits.specs.declared.Order.{Order}
-use Rattle.bits.specs.Refusals.{done, ifDone}
-use Rattle.bits.proofs.RefusalLaws.{passed, all-pass, test-failed, at-most, if-refused, if-done, answer-refused}
+use Rattle.bits.specs.Refusals.{done, retiredKind, orElse, firstRefusal, ifDone}
+use Rattle.bits.proofs.RefusalLaws.{orElse-behind, passed, all-pass, test-failed, at-most, if-refused, if-done, answer-refused}
 use Rattle.packing.specs.declared.State.{State}
 use Rattle.packing.specs.Packing.{Belongs, put, putOut}
 use Rattle.packing.proofs.BelongsLaws.{refusal-belongs, belongs-refusal}
 use Rattle.packing.proofs.PutLaws.{put-none, put-none-out}
 use Rattle.writer.specs.declared.Writer.{Writer}
 use Rattle.writer.specs.declared.Wrote.{Wrote}
-use Rattle.writer.specs.Writer.{stateIn, writerWith, bitsWritten, writerRefusal, oversized, writeRefusal, signedRefusal, bytesRefusal, padding}
+use Rattle.writer.specs.Writer.{stateIn, writerWith, bitsWritten, writerRefusal, oversized, roomRefusal, writeRefusal, signedRefusal, singleRefusal, bytesRefusal, padding}
 use Rattle.writer.specs.Answers.{wrote}
 use Rattle.writer.proofs.WidthLaws.{fits-width}
 
@@ -45,6 +45,16 @@ module _ (len : ℕ) (w : Writer) where
   signed-passed n _ z =
       let (of, (narrow, room)) = passed _ z in
       (at-most _ _ _ narrow, record { belongs = refusal-belongs len (stateIn w) of; enough = at-most _ _ _ room })
+
+  -- a single never passes
+  pub single-never : singleRefusal len w ≡ done → ⊥
+  unfolding singleRefusal
+  single-never z = let (_, (_, never)) = passed _ z in omega (arith, never)
+
+  -- it is refused as any 32 bits are, and with 16 where these are written
+  pub single-refused : (v : ℕ) → v < 2 ^ 32 → singleRefusal len w ≡ orElse (writeRefusal len w 32 v) retiredKind
+  unfolding singleRefusal writeRefusal oversized firstRefusal orElse
+  single-refused v h = rw (lt-leb (2 ^ 32) v h) (orElse-behind (writerRefusal len w) (roomRefusal len w 32) retiredKind)
 
   pub bytes-passed : (n : ℕ) → bytesRefusal len w n ≡ done → Room len w (8 * n)
   unfolding bytesRefusal

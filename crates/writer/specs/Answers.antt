@@ -12,7 +12,7 @@ use Rattle.packing.specs.Packing.{put, putOut, putBytes, putBytesOut}
 use Rattle.writer.specs.declared.Writer.{Writer}
 use Rattle.writer.specs.declared.Wrote.{Wrote}
 use Rattle.writer.specs.declared.Unaligned.{Unaligned}
-use Rattle.writer.specs.Writer.{stateIn, writerWith, writerRefusal, writeRefusal, signedRefusal, bytesRefusal, padding}
+use Rattle.writer.specs.Writer.{stateIn, writerWith, writerRefusal, writeRefusal, signedRefusal, singleRefusal, bytesRefusal, padding}
 
 -- the refusal e and the writer that came, or done and the writer with state c
 abbrev pub wrote : ℕ → Writer → State → Wrote
@@ -39,6 +39,10 @@ signedOf o len w n z = wrote (signedRefusal len w n z) w (put o (stateIn w) n (p
 
 unfoldable pub signedOut : Order → List ℕ → Writer → ℕ → ℤ → List ℕ
 signedOut o s w n z = ifDone (signedRefusal (length s) w n z) (putOut o s (stateIn w) n (pattern n z)) s
+
+-- a single, which is always refused: the writer as it came, and so the output
+unfoldable pub retiredOf : ℕ → Writer → Wrote
+retiredOf len w = record { refusal = singleRefusal len w; writer = w }
 
 -- the bits held
 unfoldable pub unalignedOf : ℕ → Writer → Unaligned

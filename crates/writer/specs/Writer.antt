@@ -4,7 +4,7 @@ use mathlib.Core.Bool.{Bool, _&&_}
 use mathlib.Core.List.{[], _∷_}
 use lib.Dec.{leb, ltb}
 use lib.IntN.{ℤ}
-use Rattle.bits.specs.Refusals.{longest, tooLong, tooWide, tooLarge, noRoom, _⟶_, firstRefusal}
+use Rattle.bits.specs.Refusals.{longest, tooLong, tooWide, tooLarge, noRoom, retiredKind, _⟶_, firstRefusal}
 use Rattle.packing.specs.declared.State.{State}
 use Rattle.packing.specs.Packing as P
 use Rattle.writer.specs.declared.Writer.{Writer}
@@ -50,6 +50,15 @@ signedRefusal len w n z =
     (writerRefusal len w
     ∷ ltb 64 n ⟶ tooWide
     ∷ roomRefusal len w n
+    ∷ [])
+
+-- a write of a single, a kind that is written no more: 1 and 2, then 8 for its 32 bits, else 16
+unfoldable pub singleRefusal : ℕ → Writer → ℕ
+singleRefusal len w =
+    firstRefusal
+    (writerRefusal len w
+    ∷ roomRefusal len w 32
+    ∷ retiredKind
     ∷ [])
 
 -- a write of n bytes: 1 also for their slice, 2, then 8 for all of them

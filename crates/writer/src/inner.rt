@@ -7,7 +7,7 @@ ghost use mathlib.Core.Path.{_≡_};
 ghost use Prim.Native.Nat.{_≤_};
 ghost use lib.ListN.{length};
 ghost use Rattle.packing.specs.Packing.{put, putOut, Belongs};
-ghost use Rattle.writer.specs.Writer.{stateIn, writerWith, oversized, roomRefusal, writeRefusal, signedRefusal, bytesRefusal, padding};
+ghost use Rattle.writer.specs.Writer.{stateIn, writerWith, oversized, roomRefusal, writeRefusal, signedRefusal, singleRefusal, bytesRefusal, padding};
 
 // The state of a writer.
 pub fn state_in(w: Writer) -> State
@@ -83,6 +83,21 @@ pub fn signed_refusal(len: usize, w: Writer, bits: u32, value: i64) -> u32
         return refusals::TOO_WIDE;
     }
     room_refusal(len, w, bits as usize)
+}
+
+// The refusal number of a write of a single: 16 where nothing lower refuses its 32 bits.
+pub fn single_refusal(len: usize, w: Writer) -> u32
+    ensures { λ r. ⌜ r ≡ singleRefusal len w ⌝ }
+{
+    let refusal = packing::inner::refusal(len, state_in(w));
+    if refusal != refusals::DONE {
+        return refusal;
+    }
+    let room = room_refusal(len, w, 32);
+    if room != refusals::DONE {
+        return room;
+    }
+    refusals::RETIRED_KIND
 }
 
 // The refusal number of a write of n bytes.

@@ -8,8 +8,8 @@ use floats::Single;
 ghost use mathlib.Core.Path.{_≡_};
 ghost use mathlib.Core.Bool.{cond};
 ghost use lib.ListN.{length};
-ghost use Rattle.floats.specs.Floats.{singleBits, doubleBits};
-ghost use Rattle.writer.specs.Answers.{newOf, writeOf, writeOut, signedOf, signedOut, unalignedOf, bytesOf, bytesOut, flushOf, flushOut};
+ghost use Rattle.floats.specs.Floats.{doubleBits};
+ghost use Rattle.writer.specs.Answers.{newOf, writeOf, writeOut, signedOf, signedOut, retiredOf, unalignedOf, bytesOf, bytesOut, flushOf, flushOut};
 
 pub mod inner;
 
@@ -126,15 +126,18 @@ impl Writer {
         self.write_signed_bits(order, out, 32, value as i64)
     }
 
-    // The 32 bits of a single, as they are.
+    // A single is written no more: 16 where its 32 bits are not refused with 1, 2 or 8. `floats::double_of_single` makes a double of it.
     //     let one = floats::single_of_bits(0x3f80_0000);
-    //     let _wrote = blank.write_f32(Order::Big, &mut out, one);
-    //     expect(b"write_f32", out[0] == 0x3f);
+    //     let wrote = blank.write_f32(Order::Big, &mut out, one);
+    //     expect(b"write_f32", wrote.refusal == 16);
     pub fn write_f32(self, order: Order, out: &mut [u8], value: Single) -> Wrote
-        ensures answer { λ r. ⌜ r ≡ writeOf order (length (now (out .entry))) self 32 (singleBits value) ⌝ }
-        ensures memory { λ _. ⌜ now (out .exit) ≡ writeOut order (now (out .entry)) self 32 (singleBits value) ⌝ }
+        ensures answer { λ r. ⌜ r ≡ retiredOf (length (now (out .entry))) self ⌝ }
+        ensures memory { λ _. ⌜ now (out .exit) ≡ now (out .entry) ⌝ }
     {
-        self.write_bits(order, out, 32, floats::bits_of_single(value) as u64)
+        Wrote {
+            refusal: inner::single_refusal(out.len(), self),
+            writer: self,
+        }
     }
 
     // 64 bits.
