@@ -17,12 +17,13 @@ int main(void) {
         if ((got = limits_read(call, bytes, LIMIT + 1)) != 1) { printf("limits: read %u past the limit gives %u\n", call, got); return 1; }
         if ((got = limits_read(call, bytes, LIMIT)) == 1) { printf("limits: read %u at the limit gives 1\n", call); return 1; }
     }
-    for (call = 0; call <= 14; call++) {
+    for (call = 0; call <= 15; call++) {
         if ((got = limits_write(call, bytes, LIMIT + 1)) != 1) { printf("limits: write %u past the limit gives %u\n", call, got); return 1; }
         for (i = 0; i < LIMIT + 1; i++) if (bytes[i] != 0x41) { printf("limits: write %u, refused, changed byte %lu\n", call, i); return 1; }
     }
-    for (call = 0; call <= 14; call++)
+    for (call = 0; call <= 15; call++)
         if ((got = limits_write(call, bytes, LIMIT)) == 1) { printf("limits: write %u at the limit gives 1\n", call); return 1; }
+    if ((got = limits_write(7, bytes, LIMIT)) != 16) { printf("limits: a single at the limit gives %u\n", got); return 1; }
     if ((got = limits_read(14, bytes, LIMIT)) != 6) { printf("limits: a plan of takes without end gives %u\n", got); return 1; }
     for (i = 0; i < LIMIT; i++) bytes[i] = i % 2 ? 0x78 : 0;
     if ((got = limits_read(14, bytes, LIMIT)) != 6) { printf("limits: a plan of refills and takes without end gives %u\n", got); return 1; }

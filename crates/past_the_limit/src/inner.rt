@@ -15,10 +15,10 @@ pub extern "C" fn limits_read(call: u32, src: &[u8]) -> u32 {
     row_call(call, src)
 }
 
-// The calls that write the slice, by number: 0 to 6 the writer's, 7 to 14 the others.
+// The calls that write the slice, by number: 0 to 7 the writer's, 8 to 15 the others.
 #[no_mangle]
 pub extern "C" fn limits_write(call: u32, out: &mut [u8]) -> u32 {
-    if call < 7 {
+    if call < 8 {
         return write_call(call, out);
     }
     fill_call(call, out)
@@ -101,7 +101,9 @@ fn write_call(call: u32, out: &mut [u8]) -> u32 {
         3 => w.write_u8(Order::Big, out, 5).refusal,
         4 => w.write_bytes(Order::Big, out, b"ab").refusal,
         5 => w.unaligned_bits(out).refusal,
-        _ => w.flush(Order::Big, out).refusal,
+        6 => w.flush(Order::Big, out).refusal,
+        _ => w.write_f32(Order::Big, out, floats::single_of_bits(0))
+            .refusal,
     }
 }
 
@@ -109,13 +111,13 @@ fn write_call(call: u32, out: &mut [u8]) -> u32 {
 fn fill_call(call: u32, out: &mut [u8]) -> u32 {
     let r = record::inner::no_record();
     match call {
-        7 => {
+        8 => {
             let c = Cursor::from_parts(0, 0, 0);
             c.read_bytes(Order::Big, b"ab", out).refusal
         }
-        8 => layout::compile(b"", out).refusal,
-        9 => listing::write_line(r, out).refusal,
-        10 => {
+        9 => layout::compile(b"", out).refusal,
+        10 => listing::write_line(r, out).refusal,
+        11 => {
             let w = Writer {
                 written: 0,
                 held: 0,
@@ -123,12 +125,12 @@ fn fill_call(call: u32, out: &mut [u8]) -> u32 {
             };
             strip::pack_record(w, out, r).refusal
         }
-        11 => {
+        12 => {
             let numbers = [0u64; 6];
             strip::pack_strip(&numbers, 1, out).refusal
         }
-        12 => rows::write_row(r, out),
-        13 => rows::strip_to_rows(b"", out).refusal,
+        13 => rows::write_row(r, out),
+        14 => rows::strip_to_rows(b"", out).refusal,
         _ => rows::rows_to_strip(b"", out).refusal,
     }
 }
