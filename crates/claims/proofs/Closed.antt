@@ -35,7 +35,7 @@ use Rattle.packing.proofs.BelongsLaws.{belongs-refusal, refusal-belongs, many-h
 use Rattle.writer.proofs.AnswerLaws.{single-refused, write-accepted}
 use Rattle.inplace.proofs.Theorems.{consume-refused, refill-refused}
 use Rattle.floats.proofs.FloatLaws.{single-same, double-same, single-plain, double-plain}
-use Rattle.floats.proofs.WideningLaws.{exact, plus-zero, minus-zero, plus-infinity, minus-infinity, nan-widened}
+use Rattle.floats.proofs.WideningLaws.{exact, signs-kept, nan-widened}
 use Rattle.floats.proofs.WideningNumbers.{exact-numbers}
 use Rattle.typed.specs.Typed.{widenedTyped}
 use Rattle.typed.specs.Answers as T
@@ -260,7 +260,7 @@ pub widened-numbers : C.WidenedNumbers
 widened-numbers = exact-numbers
 
 pub widened-others : C.WidenedOthers
-widened-others x = (plus-zero x, minus-zero x, plus-infinity x, minus-infinity x, nan-widened x)
+widened-others x = let (plus, minus, up, down) = signs-kept x in (plus, minus, up, down, nan-widened x)
 
 pub widened-read-back : C.WidenedBack
 unfolding W.writeOf

@@ -1,10 +1,10 @@
 -- A single changed into a double means what it meant, over all patterns at once: a number of `lib.Ieee` names no format, so the double
 -- holds the very same one. Assumes nothing.
 use mathlib.Core.Path.{_≡_, refl, sym, _∙_}
-use mathlib.Core.Bool.{true, false, false≢true}
+use mathlib.Core.Bool.{Bool, true, false, cond, false≢true}
 use Prim.Native.Nat.{ℕ}
 use lib.Dec.{T, lit≤}
-use lib.Ieee.{Float, Format, nan, inf, fin, binary32, binary64, isNan, nanBits, ofBits, ofFields, toBits, fits, odd, size}
+use lib.Ieee.{Float, nan, inf, fin, binary32, binary64, isNan, nanBits, ofBits, ofFields, toBits, fits, odd, size}
 use lib.Ieee.Bits.{ofBits-toBits, ofBits-fits, nanBits-is}
 use lib.Ieee.Fits.{fits-widens}
 use Rattle.floats.specs.declared.Single.{Single}
@@ -24,6 +24,12 @@ the-nan (fin s m k) e = absurd (false≢true e)
 -- what the bits of a single mean is one of a double's values
 meant-fits : (b : ℕ) → T (fits binary64 (ofBits binary32 b))
 meant-fits b = fits-widens _ (ofBits-fits binary32 b)
+
+-- the bits of a double that is kept bits or a number
+either-bits : (t : Bool) (n : ℕ) (x : Float) → doubleBits (cond t (D.Bits n) (D.Number x)) ≡ cond t n (toBits binary64 x)
+unfolding doubleBits
+either-bits true n x = refl
+either-bits false n x = refl
 
 module _ (x : Single) where
   -- exact: the double's bits mean what the single's mean
@@ -49,24 +55,20 @@ module _ (x : Single) where
       (λ e. refl)
       (λ e. rw (nanBits-is, ofBits-toBits binary64 (ofBits binary32 b) (meant-fits b), ← nanBits-is, e) refl)
 
+  -- the double's bits, by the single's
+  pub wide-bits : {b : ℕ} → singleBits x ≡ b → doubleBits (widened x) ≡ cond (nanBits binary32 b) oneNan (toBits binary64 (ofBits binary32 b))
+  unfolding widened
+  wide-bits {b} e = rw e (either-bits (nanBits binary32 b) oneNan (ofBits binary32 b))
+
   -- every NaN, whatever its payload or sign, becomes the one
   pub nan-widened : nanBits binary32 (singleBits x) ≡ true → doubleBits (widened x) ≡ oneNan
-  unfolding widened doubleBits
-  nan-widened e = rw e refl
+  nan-widened e = wide-bits refl ∙ rw e refl
 
   -- the zeros and the infinities keep their sign
-  pub plus-zero : singleBits x ≡ 0x0000_0000 → doubleBits (widened x) ≡ 0x0000_0000_0000_0000
-  unfolding widened doubleBits nanBits ofBits ofFields odd toBits size
-  plus-zero e = rw e refl
-
-  pub minus-zero : singleBits x ≡ 0x8000_0000 → doubleBits (widened x) ≡ 0x8000_0000_0000_0000
-  unfolding widened doubleBits nanBits ofBits ofFields odd toBits size
-  minus-zero e = rw e refl
-
-  pub plus-infinity : singleBits x ≡ 0x7F80_0000 → doubleBits (widened x) ≡ 0x7FF0_0000_0000_0000
-  unfolding widened doubleBits nanBits ofBits ofFields toBits
-  plus-infinity e = rw e refl
-
-  pub minus-infinity : singleBits x ≡ 0xFF80_0000 → doubleBits (widened x) ≡ 0xFFF0_0000_0000_0000
-  unfolding widened doubleBits nanBits ofBits ofFields toBits
-  minus-infinity e = rw e refl
+  pub signs-kept :
+      (singleBits x ≡ 0x0000_0000 → doubleBits (widened x) ≡ 0x0000_0000_0000_0000)
+      × (singleBits x ≡ 0x8000_0000 → doubleBits (widened x) ≡ 0x8000_0000_0000_0000)
+      × (singleBits x ≡ 0x7F80_0000 → doubleBits (widened x) ≡ 0x7FF0_0000_0000_0000)
+      × (singleBits x ≡ 0xFF80_0000 → doubleBits (widened x) ≡ 0xFFF0_0000_0000_0000)
+  unfolding nanBits ofBits ofFields odd toBits size
+  signs-kept = (wide-bits, wide-bits, wide-bits, wide-bits)
