@@ -1,11 +1,10 @@
 -- What the code's tests for a NaN tell, of bits and of a float, at either format. Assumes nothing.
 use mathlib.Core.Path.{_≡_, refl, sym, ap, subst, _∙_}
-use mathlib.Core.Bool.{Bool, true, false, not, _&&_}
+use mathlib.Core.Bool.{Bool, true, false, not}
 use Prim.Native.Nat.{ℕ, _≤_, _<_, _%_, _*_}
 use lib.Dec.{T}
-use lib.Ieee.{Float, Format, nan, inf, fin, isNan, nanBits, ne, ofBits, toBits, ones, hid, top, fits, binary32, binary64}
-use lib.Ieee.Bits.{nanBits-above, nanBits-is, ofBits-fits}
-use lib.Ieee.Fits.{and-i, fits-widens}
+use lib.Ieee.{Float, Format, nan, inf, fin, isNan, nanBits, ne, toBits, ones, hid, top}
+use lib.Ieee.Bits.{nanBits-above}
 use lib.Ieee.Compare.{differs-from-itself, nan-differs}
 use borrow.Author.Tests.{lt-ltb, le-ltb}
 
@@ -31,9 +30,3 @@ same (fin s m k) e = refl
 -- a test that failed, as a conversion of bits asks it
 pub failed : {t : Bool} → t ≡ false → T (not t)
 failed e = rw e tt
-
--- bits of a single that are no NaN's mean a number that a double holds, so it may be cast to one
-pub may-widen : (b : ℕ) → nanBits binary32 b ≡ false → T (fits binary64 (ofBits binary32 b) && not (isNan (ofBits binary32 b)))
-may-widen b e =
-    let x = ofBits binary32 b in
-    and-i (fits binary64 x) (not (isNan x)) (fits-widens x (ofBits-fits binary32 b)) (failed (sym (nanBits-is binary32 b) ∙ e))

@@ -1,18 +1,19 @@
 -- A single changed into a double means what it meant, over all patterns at once: a number of `lib.Ieee` names no format, so the double
 -- holds the very same one. Assumes nothing.
 use mathlib.Core.Path.{_≡_, refl, sym, _∙_}
-use mathlib.Core.Bool.{Bool, true, false, cond, false≢true}
+use mathlib.Core.Bool.{Bool, true, false, not, _&&_, cond, false≢true}
 use Prim.Native.Nat.{ℕ}
 use lib.Dec.{T, lit≤}
 use lib.Ieee.{Float, nan, inf, fin, binary32, binary64, isNan, nanBits, ofBits, ofFields, toBits, fits, odd, size}
 use lib.Ieee.Bits.{ofBits-toBits, ofBits-fits, nanBits-is}
-use lib.Ieee.Fits.{fits-widens}
+use lib.Ieee.Fits.{and-i, fits-widens}
 use Rattle.floats.specs.declared.Single.{Single}
 use Rattle.floats.specs.declared.Double.{Double}
 use Rattle.floats.specs.declared.Double.the-variants as D
 use Rattle.floats.specs.Floats.{singleBits, doubleOf, doubleBits, DoubleHeld}
 use Rattle.floats.specs.Widening.{oneNan, widened}
 use Rattle.floats.proofs.FloatLaws.{cond-either}
+use Rattle.floats.proofs.Nans.{failed}
 
 -- there is one NaN
 the-nan : (x : Float) → isNan x ≡ true → x ≡ nan
@@ -24,6 +25,10 @@ the-nan (fin s m k) e = absurd (false≢true e)
 -- what the bits of a single mean is one of a double's values
 meant-fits : (b : ℕ) → T (fits binary64 (ofBits binary32 b))
 meant-fits b = fits-widens _ (ofBits-fits binary32 b)
+
+-- so where they are no NaN's, it may be cast to a double
+pub may-widen : (b : ℕ) → nanBits binary32 b ≡ false → T (fits binary64 (ofBits binary32 b) && not (isNan (ofBits binary32 b)))
+may-widen b e = let x = ofBits binary32 b in and-i (fits binary64 x) (not (isNan x)) (meant-fits b) (failed (sym (nanBits-is binary32 b) ∙ e))
 
 -- the bits of a double that is kept bits or a number
 either-bits : (t : Bool) (n : ℕ) (x : Float) → doubleBits (cond t (D.Bits n) (D.Number x)) ≡ cond t n (toBits binary64 x)

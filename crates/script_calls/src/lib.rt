@@ -79,20 +79,9 @@ fn run_line(
 // What a letter calls: sign extension and the double of a single are answered beside the calls on the cursor.
 fn target_of(letter: u8) -> Target {
     match letter {
-        b'n'
-        | b'b'
-        | b's'
-        | b'f'
-        | b'q'
-        | b'h'
-        | b'p'
-        | b'c'
-        | b'r'
-        | b'y'
-        | b'm'
-        | b'k'
-        | b'e'
-        | b'd' => Target::Cursor,
+        b'n' | b'b' | b's' | b'f' | b'q' | b'h' | b'p' | b'c' | b'r' | b'y' | b'm' | b'k' =>
+            Target::Cursor,
+        b'e' | b'd' => Target::Cursor,
         b'N' | b'w' | b'x' | b'F' | b'Y' | b'u' | b'z' | b'o' | b'K' => Target::Writer,
         _ => Target::Nothing,
     }

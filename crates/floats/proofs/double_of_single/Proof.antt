@@ -3,7 +3,8 @@
 use lib.Ieee.{binary32}
 use borrow.Author.Needs.{needs}
 use Rattle.floats.specs.Widening.{widened}
-use Rattle.floats.proofs.Nans.{above, within, failed, may-widen}
+use Rattle.floats.proofs.Nans.{above, within, failed}
+use Rattle.floats.proofs.WideningLaws.{may-widen}
 use Rattle.floats.proofs.double_of_single.Statement.{statement}
 use Rattle.floats.proofs.double_of_single.Tie as tie
 
