@@ -37,6 +37,7 @@ extern "C" {
     fn bench_rows_to_strip(r: *const u8, l: usize, o: *mut u8, ol: usize) -> u64;
     fn bench_read_strip(s: *const u8, l: usize, v: *mut u64, n: usize) -> usize;
     fn bench_pack_strip(v: *const u64, l: usize, n: usize, o: *mut u8, ol: usize) -> usize;
+    fn bench_vet_strip(s: *const u8, l: usize) -> u64;
     fn bench_read_bytes_big(s: *const u8, l: usize, skip: u32, b: *mut u8, bl: usize, times: usize) -> u64;
     fn bench_read_bytes_little(s: *const u8, l: usize, skip: u32, b: *mut u8, bl: usize, times: usize) -> u64;
     fn bench_write_bytes_big(o: *mut u8, l: usize, skip: u32, b: *const u8, bl: usize, times: usize) -> u64;
@@ -70,6 +71,7 @@ struct Bench {
     camera: Vec<u8>, // a text with eight date decimals, as cameras give them
     whole: Vec<u8>, // the strip of the numbers whose rows are within the limit
     rows: Vec<u8>,  // those rows
+    kept: Vec<u8>,  // a strip of as many records as the size has, which keeps the rules
     layout: Vec<(u8, u8)>,
     bytes: Vec<u8>, // the layout's
     plan: Vec<u8>,
@@ -127,6 +129,7 @@ impl Bench {
             camera: Vec::new(),
             whole: Vec::new(),
             rows: Vec::new(),
+            kept: Vec::new(),
             layout: Vec::new(),
             bytes: Vec::new(),
             plan: Vec::new(),
@@ -154,6 +157,12 @@ impl Bench {
         let most = b.numbers.len().min(LIMIT / tables::ROW * 6);
         rust_write_records(&mut b.whole, &b.numbers[..most]);
         b.rows = b.numbers[..most].chunks_exact(6).flat_map(tables::row).collect();
+        // the records with their dates in order, filters up to 9, and error 0 only with limit 1
+        let mut dates: Vec<u64> = b.numbers.chunks_exact(6).map(|six| six[1]).collect();
+        dates.sort_unstable();
+        let keep = |(six, date): (&[u64], u64)| [six[0], date, if six[4] == 0 { 1 } else { six[2] }, six[3], six[4], six[5] % 10];
+        let numbers: Vec<u64> = b.numbers.chunks_exact(6).zip(dates).flat_map(keep).collect();
+        rust_write_records(&mut b.kept, &numbers);
         b
     }
 
@@ -769,6 +778,104 @@ fn rows_agree() {
     }
 }
 
+// ---- the Rust's verdict on a strip: safe, one pass, the tail behind the records
+
+mod rules {
+    use bitter::{BigEndianReader, BitReader};
+
+    const TOO_LONG: u32 = 1;
+
+    pub enum Verdict {
+        Fine,
+        Broken(usize, u32),
+        BadTail,
+        Refused(u32),
+    }
+
+    // The first record at fault and the first rule that it breaks, else what the tail is.
+    #[inline(never)]
+    pub fn vet(strip: &[u8]) -> Verdict {
+        if strip.len() > super::LIMIT {
+            return Verdict::Refused(TOO_LONG);
+        }
+        let mut r = BigEndianReader::new(strip);
+        let mut six = || Some([r.read_bits(20)?, r.read_bits(38)?, r.read_bits(1)?, r.read_bits(16)?, r.read_bits(10)?, r.read_bits(4)?]);
+        let mut number = 1;
+        let mut above = 0;
+        while let Some([_, date, limit, _, error, filter]) = six() {
+            if date < above {
+                return Verdict::Broken(number, 1);
+            }
+            if filter > 9 {
+                return Verdict::Broken(number, 2);
+            }
+            if error == 0 && limit != 1 {
+                return Verdict::Broken(number, 3);
+            }
+            number += 1;
+            above = date;
+        }
+        let left = 8 * strip.len() % 89;
+        if left >= 8 || (left > 0 && strip[strip.len() - 1] % (1 << left) != 0) {
+            return Verdict::BadTail;
+        }
+        Verdict::Fine
+    }
+}
+
+// The verdict as a number, as our loop answers it.
+fn rust_vet_strip(strip: &[u8]) -> u64 {
+    match rules::vet(strip) {
+        rules::Verdict::Fine => 0,
+        rules::Verdict::Broken(number, rule) => rule as u64 | (number as u64) << 3,
+        rules::Verdict::BadTail => 4,
+        rules::Verdict::Refused(refusal) => (refusal as u64) << 32,
+    }
+}
+
+// The same for verdicts: strips that break a rule at any record, that just don't, that break several; all with good and bad tails; short
+// strips, and the longest. The strip that is timed has to keep the rules.
+fn verdicts_agree(timed: &[u8]) {
+    assert_eq!(rust_vet_strip(timed), 0, "the strip that is timed breaks a rule");
+    let agree = |strip: &[u8]| {
+        let ours = unsafe { bench_vet_strip(strip.as_ptr(), strip.len()) };
+        assert!(ours == rust_vet_strip(strip), "vetting {} bytes: {:?}", strip.len(), &strip[..strip.len().min(128)]);
+    };
+    let good = [5, 246_052_364_817, 0, -1440i64 as u64, 12, 3];
+    let (before, after) = (good[1] - 1, good[1] + 1);
+    // where numbers of a record stand, and what they become
+    let tried: &[&[(usize, u64)]] = &[
+        &[], &[(1, 0)], &[(1, before)], &[(1, after)], &[(1, (1 << 38) - 1)], &[(5, 0)], &[(5, 9)], &[(5, 10)], &[(5, 15)],
+        &[(4, 0)], &[(4, 0), (2, 1)], &[(4, 1)], &[(4, 1), (2, 1)], &[(0, 0xF_FFFF), (3, -1i64 as u64), (4, 0)],
+        &[(1, before), (5, 10)], &[(1, before), (4, 0)], &[(5, 10), (4, 0)], &[(1, before), (5, 10), (4, 0)],
+    ];
+    for n in 1..10 {
+        for (k, one, other) in (0..n).flat_map(|k| tried.iter().flat_map(move |one| tried.iter().map(move |other| (k, one, other)))) {
+            // one at record k, the other at the last
+            let mut numbers = good.repeat(n);
+            for (record, changed) in [(k, one), (n - 1, other)] {
+                for (at, number) in *changed {
+                    numbers[6 * record + at] = *number;
+                }
+            }
+            let mut strip = Vec::new();
+            rust_write_records(&mut strip, &numbers);
+            agree(&strip);
+            agree(&strip[..strip.len() - 1]);
+            agree(&[&strip[..], &[0]].concat());
+            *strip.last_mut().expect("a byte") |= 1;
+            agree(&strip);
+        }
+    }
+    let mut next = random(7);
+    for n in 0..40 {
+        agree(&vec![0; n]);
+        agree(&(0..n).map(|_| (next() >> 32) as u8).collect::<Vec<u8>>());
+    }
+    agree(&vec![0; LIMIT]);
+    agree(&vec![0; LIMIT + 1]);
+}
+
 // The Rust's programs.
 fn program(list: bool) -> std::io::Result<()> {
     const MOST: usize = 65536;
@@ -843,6 +950,9 @@ fn cases(b: &Bench) -> Vec<Case> {
     add("read a strip (bulk)", 0.75, (records as f64, "record"), &[], |b, _| hash(&b.list),
         Box::new(|b| unsafe { bench_read_strip(b.src.as_ptr(), b.src.len(), b.list.as_mut_ptr(), b.list.len()) as u64 }),
         Some(Box::new(|b| rust_read_strip(&b.src, &mut b.list) as u64)));
+    add("vet a strip", 0.75, (records as f64, "record"), &[], nothing,
+        Box::new(|b| unsafe { bench_vet_strip(b.kept.as_ptr(), b.kept.len()) }),
+        Some(Box::new(|b| rust_vet_strip(&b.kept))));
     for (big, little, layout) in [
         ("inner runner, record, big", "inner runner, record, little", &RECORD[..]),
         ("inner runner, mixed, big", "inner runner, mixed, little", &MIXED[..]),
@@ -987,6 +1097,7 @@ pub extern "C" fn main(_: i32, _: *const *const u8) -> i32 {
     }
     texts_agree();
     rows_agree();
+    verdicts_agree(&b.kept);
     for c in &all {
         b.set_layout(&c.layout);
         let unit = 1e9 / c.items;

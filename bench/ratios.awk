@@ -18,9 +18,19 @@ FNR == 1 {
     ours = count[k]; rust = count[k + 1]
     timed = (p[5] != "-"); both = (p[5] != "0")
     counted = (ours > 0)
+    ns[p[1]] = p[3]; each[p[1]] = ours / items
     printf("%-31s %-6s %8s %8s %6s    %8s %8s %6s  %5s\n", p[1], p[7],
         timed ? plain(p[3]) : "-", timed && both ? plain(p[4]) : "-", timed && both ? ratio(p[5], aim) : "- ",
         counted ? plain(ours / items) : "-", counted && both ? plain(rust / items) : "-", counted && both ? ratio(ours / rust, aim) : "- ",
         (aim > 0) ? sprintf("%.2f", aim) : "-")
 }
-END { print above + 0 " ratios above the aim (*)" }
+END {
+    # vetting a strip is held to reading one
+    vet = "vet a strip"; read = "read a strip (bulk)"
+    if (vet in ns && read in ns) {
+        told = ratio(ns[vet] / ns[read], 1.1) " by time, " ratio(each[read] > 0 ? each[vet] / each[read] : "", 1.1) " by instructions"
+        gsub(/  +/, " ", told)
+        print vet " / " read ": " told " (aim 1.10)"
+    }
+    print above + 0 " ratios above the aim (*)"
+}

@@ -13,7 +13,7 @@ int main(void) {
     u32 call, got;
     unsigned long i;
     for (i = 0; i < LIMIT + 1; i++) bytes[i] = 0x41;
-    for (call = 0; call <= 22; call++) {
+    for (call = 0; call <= 23; call++) {
         if ((got = limits_read(call, bytes, LIMIT + 1)) != 1) { printf("limits: read %u past the limit gives %u\n", call, got); return 1; }
         if ((got = limits_read(call, bytes, LIMIT)) == 1) { printf("limits: read %u at the limit gives 1\n", call); return 1; }
     }

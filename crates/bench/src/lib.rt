@@ -1,6 +1,7 @@
 // The loops that bench/run times beside the Rust's: each goes through a whole slice in one way of the library and answers a sum of what
 // it read, which the driver compares. Nothing is claimed of them but that they are safe.
 use bits::Order;
+use vetting::Verdict;
 
 mod bytes;
 mod plans;
@@ -111,6 +112,18 @@ pub extern "C" fn bench_read_strip(src: &[u8], numbers: &mut [u64]) -> usize {
 pub extern "C" fn bench_pack_strip(numbers: &[u64], n: usize, out: &mut [u8]) -> usize {
     let packed = strip::pack_strip(numbers, n, out);
     packed.length
+}
+
+// 0 where the strip keeps the rules; the rule and, 3 bits up, the record at fault; 4 for a bad tail; the refusal 32 bits up.
+#[no_mangle]
+pub extern "C" fn bench_vet_strip(strip: &[u8]) -> u64 {
+    let verdict = vetting::vet_strip(strip);
+    match verdict {
+        Verdict::Fine => 0,
+        Verdict::Broken(number, rule) => rule as u64 | (number as u64) << 3,
+        Verdict::BadTail => 4,
+        Verdict::Refused(refusal) => (refusal as u64) << 32,
+    }
 }
 
 // ---- whole texts

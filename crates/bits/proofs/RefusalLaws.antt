@@ -67,6 +67,11 @@ pub test-held : (t : Bool) (k : ℕ) → (not t ⟶ suc k) ≡ done → t ≡ tr
 test-held true k z = refl
 test-held false k z = absurd (omega arith)
 
+-- one that refuses: it holds
+pub test-true : (t : Bool) (k : ℕ) → ((t ⟶ suc k) ≡ done → ⊥) → t ≡ true
+test-true true k h = refl
+test-true false k h = absurd (h refl)
+
 pub at-most : (a b k : ℕ) → (ltb a b ⟶ suc k) ≡ done → b ≤ a
 at-most a b k z = ltb-false a b (test-failed (ltb a b) k z)
 

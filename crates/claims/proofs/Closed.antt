@@ -51,7 +51,7 @@ use Rattle.plan.specs.Run.{runOf, runOut}
 use Rattle.plan.proofs.Theorems as P
 use Rattle.line.specs.declared.LineRead.{LineRead}
 use Rattle.line.specs.Grammar.{Line}
-use Rattle.line.proofs.Theorems.{accepted, acceptable, refusable, nearest-date, five-exact, sixth-decides, date-bound}
+use Rattle.line.proofs.Theorems.{accepted, acceptable, refusable, nearest-date, five-exact, sixth-decides, date-bound, dates-in-order}
 use Rattle.listing.specs.Listing.{writeLine, writeOut}
 use Rattle.listing.proofs.Theorems.{round-trip, five-decimals, line-room}
 use Rattle.strip.specs.declared.StripRead.{StripRead}
@@ -63,6 +63,7 @@ use Rattle.roundtrip.specs.Mixed as Trip
 use Rattle.roundtrip.proofs.MixedTrip.{mixed-round-trip}
 use Rattle.text.specs.declared.Packed.{Packed}
 use Rattle.text.specs.Text.{bodyOf}
+use Rattle.vetting.proofs.Theorems.{accepted-exactly, bad-tail-exactly, fault-exactly, fault-one, told-exactly}
 use Rattle.rows.specs.Answers as F
 use Rattle.rows.proofs.AnswerLaws.{rows-number, packed-number}
 use Rattle.rows.proofs.Theorems.{there-and-back, row-says, back-and-there, refused-exactly, strip-there-and-back as rows-of-strip-back, rows-there-and-back, bad-row-exactly, bad-row-told, tails-told}
@@ -72,7 +73,7 @@ use Rattle.text.proofs.BadLineLaws.{bad-line-exactly, bad-or-good}
 use Rattle.text.proofs.Theorems.{good-text, text-packs, text-again, packed-back}
 use Rattle.jobs.specs.Answers.{answeredOf, answeredOut}
 use Rattle.jobs.proofs.ApartLaws.{too-long-apart, bad-tail-apart, bad-line-apart, bad-row-apart, rows-too-long-apart, rows-bad-tail-apart}
-use Rattle.jobs.proofs.Theorems.{list-is, pack-is, list-room, pack-room, few-back, many-lost, rows-is, pack-rows-is, rows-room, pack-rows-room, rows-back, rows-lost}
+use Rattle.jobs.proofs.Theorems.{list-is, pack-is, list-room, pack-room, few-back, many-lost, rows-is, pack-rows-is, rows-room, pack-rows-room, rows-back, rows-lost, check-is, check-room, packed-fine, packed-ok}
 use Rattle.host.specs.Host.{hostValue}
 use Rattle.host.proofs.HostLaws.{not-refused, done-within}
 use Rattle.claims.proofs.ReachedLaws.{writer-kept, cursor-owned}
@@ -429,6 +430,26 @@ bad-row-is s len i short short-out room =
 pub tails-are-told : C.TailsTold
 tails-are-told = tails-told
 
+-- ---- strips from other apps
+
+pub accepted-is : C.Accepted
+accepted-is = accepted-exactly
+
+pub faults-exactly : C.FaultsExactly
+faults-exactly = (λ s n r short. fault-exactly s short n r, fault-one)
+
+pub tails-last : C.TailsLast
+tails-last = bad-tail-exactly
+
+pub verdicts-told : C.VerdictsTold
+verdicts-told = told-exactly
+
+pub packed-accepted : C.PackedAccepted
+packed-accepted = packed-fine
+
+pub dates-ordered : C.DatesInOrder
+dates-ordered s t r q l m le = dates-in-order l m le
+
 -- ---- programs
 
 pub answers-are : C.AnswersAre
@@ -436,6 +457,9 @@ answers-are = (list-is, pack-is)
 
 pub row-answers-are : C.RowAnswersAre
 row-answers-are = (rows-is, pack-rows-is)
+
+pub check-answers-are : C.CheckAnswersAre
+check-answers-are = (check-is, packed-ok)
 
 pub messages-apart : C.MessagesApart
 messages-apart rs = (
@@ -446,7 +470,7 @@ messages-apart rs = (
 
 pub answers-fit : C.AnswersFit
 answers-fit = (
-  λ s. (omega (arith, list-room s), omega (arith, rows-room s)),
+  λ s. (omega (arith, list-room s), omega (arith, rows-room s), omega (arith, check-room s)),
   λ t. (omega (arith, pack-room t), omega (arith, pack-rows-room t)),
 )
 

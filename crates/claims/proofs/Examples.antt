@@ -35,12 +35,13 @@ use Rattle.line.specs.Grammar.{spelled}
 use Rattle.listing.specs.Listing.{partsOf, lineOf}
 use Rattle.strip.specs.Bits.{bitsOf, recordAt}
 use Rattle.strip.specs.Strip.{joined, stripBytes, recordsFrom, tailGood}
+use Rattle.vetting.specs.Verdicts.{ruleBroken, verdictFrom, verdictOf}
 use Rattle.rows.specs.Row.{letter, columnsAt, columnsOf, bitsOfColumns, rowBytes, within, inRange, recordSaid}
 use Rattle.rows.specs.Rows.{rowsBytes, rowsWhole, recordsInRows, badFrom}
 use Rattle.text.specs.declared.Listed.{Listed}
 use Rattle.text.specs.Text.{header, badTail, listed, textOf, headed, linesIn}
 use Rattle.text.specs.Answers.{listRefusal, listOf}
-use Rattle.jobs.specs.Jobs.{tooLongSaid, badLineSaid, badRowSaid, listAnswer, packAnswer, rowsAnswer, packRowsAnswer}
+use Rattle.jobs.specs.Jobs.{tooLongSaid, badLineSaid, badRowSaid, okSaid, faultSaid, verdictSaid, listAnswer, packAnswer, rowsAnswer, packRowsAnswer, checkAnswer}
 use Rattle.writer.specs.declared.Writer.{Writer}
 use Rattle.writer.specs.Writer.{oversized, writeRefusal}
 use Rattle.writer.specs.Answers as W
@@ -69,11 +70,12 @@ pub data Asked : Type 0 where
   compiles : List ℕ → List ℕ → Asked
   -- the text of a strip, listed into an output with room for so many bytes: the refusal number, the length, and the text
   lists : List ℕ → ℕ → Asked
-  -- all that striplist, strippack, striprows and rowspack write for all that they read
+  -- all that striplist, strippack, striprows, rowspack and stripcheck write for all that they read
   listed-by-program : List ℕ → Asked
   packed-by-program : List ℕ → Asked
   rows-by-program : List ℕ → Asked
   rows-packed-by-program : List ℕ → Asked
+  checked-by-program : List ℕ → Asked
   -- the message for too much
   said : Asked
 
@@ -104,6 +106,7 @@ told (listed-by-program s) = map pos (listAnswer s)
 told (packed-by-program t) = map pos (packAnswer t)
 told (rows-by-program s) = map pos (rowsAnswer s)
 told (rows-packed-by-program t) = map pos (packRowsAnswer t)
+told (checked-by-program s) = map pos (checkAnswer s)
 told said = map pos tooLongSaid
 told (lists s room) = let r : Listed = listOf s room in (pos (r .refusal) ∷ pos (r .length) ∷ map pos (textOf s))
 
@@ -175,10 +178,29 @@ table =
     ∷ (rows-packed-by-program (0 ∷ 0 ∷ 0 ∷ 5 ∷ 0 ∷ 0 ∷ 0 ∷ 0x39 ∷ 0x49 ∷ 0xdd ∷ 0x22 ∷ 0x11 ∷ 0x66 ∷ 0xfa ∷ 0x60 ∷ 0 ∷ 0x0c ∷ 3 ∷ 0 ∷ [])
     gives map pos (ascii "bad row 1" ++ newline ∷ []))
     ∷ (rows-packed-by-program (0 ∷ []) gives map pos (ascii "bad tail" ++ newline ∷ []))
+    -- the rules in their order, the first record at fault, the tail last; equal dates, filter 9 and error 0 with limit 1 are fine
+    ∷ (checked-by-program (0x00 ∷ 0x00 ∷ 0x5e ∷ 0x52 ∷ 0x77 ∷ 0x48 ∷ 0x84 ∷ 0x5f ∷ 0x4c ∷ 0x00 ∷ 0x61 ∷ 0x80 ∷ [])
+    gives map pos (ascii "ok" ++ newline ∷ []))
+    ∷ (checked-by-program (0x00 ∷ 0x00 ∷ 0x5e ∷ 0x52 ∷ 0x77 ∷ 0x48 ∷ 0x84 ∷ 0x5f ∷ 0x4c ∷ 0x00 ∷ 0x61 ∷ 0x80 ∷ 0x00 ∷ 0x2f ∷ 0x29 ∷ 0x3b ∷ 0xa4 ∷ 0x42 ∷ 0x2f ∷ 0xa6 ∷ 0x00 ∷ 0x30 ∷ 0xc0 ∷ [])
+    gives map pos (ascii "ok" ++ newline ∷ []))
+    ∷ (checked-by-program (0x00 ∷ 0x00 ∷ 0x5e ∷ 0x52 ∷ 0x77 ∷ 0x48 ∷ 0x84 ∷ 0x5f ∷ 0x4c ∷ 0x00 ∷ 0x61 ∷ 0x80 ∷ 0x00 ∷ 0x2f ∷ 0x29 ∷ 0x3b ∷ 0xa4 ∷ 0x42 ∷ 0x0f ∷ 0xa6 ∷ 0x00 ∷ 0x02 ∷ 0x80 ∷ [])
+    gives map pos (ascii "record 2 rule 1" ++ newline ∷ []))
+    ∷ (checked-by-program (0x00 ∷ 0x00 ∷ 0x5e ∷ 0x52 ∷ 0x77 ∷ 0x48 ∷ 0x84 ∷ 0x5f ∷ 0x4c ∷ 0x00 ∷ 0x05 ∷ 0x00 ∷ [])
+    gives map pos (ascii "record 1 rule 2" ++ newline ∷ []))
+    ∷ (checked-by-program (0x00 ∷ 0x00 ∷ 0x5e ∷ 0x52 ∷ 0x77 ∷ 0x48 ∷ 0x84 ∷ 0x5f ∷ 0x4c ∷ 0x00 ∷ 0x01 ∷ 0x80 ∷ 0x00 ∷ 0x28 ∷ 0x00 ∷ 0x00 ∷ 0x00 ∷ 0x00 ∷ 0x0f ∷ 0xa6 ∷ 0x00 ∷ 0x30 ∷ 0xc0 ∷ [])
+    gives map pos (ascii "record 1 rule 3" ++ newline ∷ []))
+    ∷ (checked-by-program (0x00 ∷ 0x00 ∷ 0x50 ∷ 0x00 ∷ 0x00 ∷ 0x00 ∷ 0x00 ∷ 0x3f ∷ 0x4c ∷ 0x00 ∷ 0x04 ∷ 0x80 ∷ [])
+    gives map pos (ascii "ok" ++ newline ∷ []))
+    ∷ (checked-by-program (0x00 ∷ 0x00 ∷ 0x5e ∷ 0x52 ∷ 0x77 ∷ 0x48 ∷ 0x84 ∷ 0x5f ∷ 0x4c ∷ 0x00 ∷ 0x61 ∷ 0x81 ∷ [])
+    gives map pos (ascii "bad tail" ++ newline ∷ []))
+    ∷ (checked-by-program (0x00 ∷ 0x00 ∷ 0x5e ∷ 0x52 ∷ 0x77 ∷ 0x48 ∷ 0x84 ∷ 0x5f ∷ 0x4c ∷ 0x00 ∷ 0x01 ∷ 0x81 ∷ [])
+    gives map pos (ascii "record 1 rule 3" ++ newline ∷ []))
+    ∷ (checked-by-program ([])
+    gives map pos (ascii "ok" ++ newline ∷ []))
     ∷ (said gives map pos (ascii "too long" ++ newline ∷ []))
     ∷ []
 
 -- every example of the table is answered as expected
 pub table-holds : map (λ (e : Example). told (e .asked)) table ≡ map (λ (e : Example). e .expected) table
-unfolding told listAnswer packAnswer rowsAnswer packRowsAnswer tooLongSaid badLineSaid badRowSaid letter columnsAt columnsOf bitsOfColumns rowBytes within inRange recordSaid rowsBytes rowsWhole recordsInRows badFrom headed linesIn stripBytes joined bitsOf fits sixAt dateAt thousandthsAt complement magnitudeAt closed wholeAt decimalsAt run after valueFrom unitsOf pattern readings writings ascii digitsOf placesIn fixedOf spelled partsOf lineOf recordAt recordsFrom tailGood header badTail listed listRefusal listOf itemsOf goodItems isLayout takes refilled compileRefusal compileOf compileOut oversized writeRefusal writeOf writeOut flushOf flushOut W.newOf P.belongs P.stateRefusal bytesOf put putOut first rest extendRefusal extendOf signed newOf readRefusal readOf startOf remainderOf partialOf cursorRefusal bitsLeft cursorAt orElse firstRefusal stateRefusal belongs registerOf afterRead position bit join field held
+unfolding told listAnswer packAnswer rowsAnswer packRowsAnswer checkAnswer verdictSaid okSaid faultSaid verdictOf verdictFrom ruleBroken tooLongSaid badLineSaid badRowSaid letter columnsAt columnsOf bitsOfColumns rowBytes within inRange recordSaid rowsBytes rowsWhole recordsInRows badFrom headed linesIn stripBytes joined bitsOf fits sixAt dateAt thousandthsAt complement magnitudeAt closed wholeAt decimalsAt run after valueFrom unitsOf pattern readings writings ascii digitsOf placesIn fixedOf spelled partsOf lineOf recordAt recordsFrom tailGood header badTail listed listRefusal listOf itemsOf goodItems isLayout takes refilled compileRefusal compileOf compileOut oversized writeRefusal writeOf writeOut flushOf flushOut W.newOf P.belongs P.stateRefusal bytesOf put putOut first rest extendRefusal extendOf signed newOf readRefusal readOf startOf remainderOf partialOf cursorRefusal bitsLeft cursorAt orElse firstRefusal stateRefusal belongs registerOf afterRead position bit join field held
 table-holds = refl

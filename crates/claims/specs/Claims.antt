@@ -12,7 +12,7 @@ use lib.Seq.{sets}
 use lib.Ieee.{binary32, binary64, nanBits, ofBits}
 use Rattle.bits.specs.declared.Order.{Order}
 use Rattle.bits.specs.declared.Order.the-variants.{Big}
-use Rattle.bits.specs.Refusals.{longest, done, foreign, badPlan, badLine, tooFew, badRow, retiredKind, orElse}
+use Rattle.bits.specs.Refusals.{longest, done, tooLong, foreign, badPlan, badLine, tooFew, badRow, retiredKind, orElse}
 use Rattle.bits.specs.Field.{field, join}
 use Rattle.bits.specs.Signed.{signed, pattern}
 use Rattle.packing.specs.Packing.{filled, story}
@@ -55,6 +55,9 @@ use Rattle.strip.specs.Bits.{bitsOf as recordBitsOf, recordAt}
 use Rattle.strip.specs.Strip.{recordsIn, allFit, stripLength, stripBytes, countOf, recordsOf, tailGood}
 use Rattle.strip.specs.Answers as S
 use Rattle.strip.specs.Calls.{packEach, readTimes}
+use Rattle.vetting.specs.declared.Verdict.the-variants.{Fine, Broken, BadTail}
+use Rattle.vetting.specs.Rules.{AllKeep, AtFault}
+use Rattle.vetting.specs.Verdicts.{verdictOf, told}
 use Rattle.rows.specs.Row.{columnsAt, columnsOf, rowBytes, inRange, rowLength, rowBits}
 use Rattle.rows.specs.Rows.{rowsBytes, rowCount, rowsWhole, recordsOfRows}
 use Rattle.rows.specs.Answers as F
@@ -62,7 +65,7 @@ use Rattle.text.specs.declared.Packed.{Packed}
 use Rattle.text.specs.Text.{textOf, badTail}
 use Rattle.text.specs.Grammar.{AllFive, FirstBad, GoodText}
 use Rattle.text.specs.Answers as X
-use Rattle.jobs.specs.Jobs.{tooLongSaid, badLineSaid, badRowSaid, listAnswer, packAnswer, rowsAnswer, packRowsAnswer}
+use Rattle.jobs.specs.Jobs.{tooLongSaid, badLineSaid, badRowSaid, okSaid, faultSaid, listAnswer, packAnswer, rowsAnswer, packRowsAnswer, checkAnswer}
 use Rattle.jobs.specs.Answers.{answeredOf, answeredOut}
 use Rattle.host.specs.Host.{orderOf, hostRefusal, hostValue}
 use Rattle.claims.specs.Reached.{Reached, Only, Either, ReachedCursor}
@@ -573,7 +576,48 @@ TailsTold =
     (tailGood s ≡ false → F.rowsOf s (length out) .refusal ≡ done → (F.rowsOf s (length out) ≡ record { refusal = done; length = 0; «tail_good» = false }) × (F.rowsOut s out ≡ out))
     × (rowsWhole s ≡ false → F.packedOf s (length out) .refusal ≡ done → (F.packedOf s (length out) ≡ record { refusal = done; row = 0; length = 0; «tail_good» = false }) × (F.packedOut s out ≡ out))
 
--- ---- programs: all that they write is `listAnswer`, `packAnswer`, `rowsAnswer` or `packRowsAnswer` of all that they read
+-- ---- strips from other apps
+
+-- a strip is accepted exactly if every record keeps every rule and the tail is good
+abbrev pub Accepted : Type 0
+Accepted = (s : List ℕ) → length s ≤ longest → (verdictOf s ≡ Fine) ↔ (AllKeep (recordsOf s) × (tailGood s ≡ true))
+
+-- a record and a rule are named exactly if they are the first at fault, and no two are, whatever the records
+abbrev pub FaultsExactly : Type 0
+FaultsExactly =
+    ((s : List ℕ) (n r : ℕ) → length s ≤ longest → (verdictOf s ≡ Broken n r) ↔ AtFault (recordsOf s) n r)
+    × ((rs : List Record) (n r m q : ℕ) → AtFault rs n r → AtFault rs m q → (n ≡ m) × (r ≡ q))
+
+-- the tail comes last: it is told to be bad exactly if every record keeps every rule and it is bad
+abbrev pub TailsLast : Type 0
+TailsLast = (s : List ℕ) → length s ≤ longest → (verdictOf s ≡ BadTail) ↔ (AllKeep (recordsOf s) × (tailGood s ≡ false))
+
+-- in numbers: 1 refuses a strip past the limit, and nothing else is refused; what is fine is accepted, and nothing else; a record and a rule
+-- are told where they are named, and nowhere else
+abbrev pub VerdictsTold : Type 0
+VerdictsTold =
+    (s : List ℕ) →
+    let t = told (verdictOf s) in
+    (longest < length s → t .refusal ≡ tooLong)
+    × (length s ≤ longest → t .refusal ≡ done)
+    × ((t .accepted ≡ true) ↔ (verdictOf s ≡ Fine))
+    × ((n r : ℕ) → 1 ≤ n → ((t .number ≡ n) × (t .rule ≡ r)) ↔ (verdictOf s ≡ Broken n r))
+
+-- a text whose lines' records keep every rule is accepted, wherever pack_text packs it
+abbrev pub PackedAccepted : Type 0
+PackedAccepted =
+    (t out : List ℕ) (rs : List Record) → GoodText t rs → AllKeep rs → X.packOf t (length out) .refusal ≡ done
+    → verdictOf (take (X.packOf t (length out) .length) (X.packOut t out)) ≡ Fine
+
+-- and rounding breaks no rule: of two lines the one whose date is spelled as no later names no later date
+abbrev pub DatesInOrder : Type 0
+DatesInOrder =
+    (s t : List ℕ) (r q : Record) (l : Line s r) (m : Line t q) →
+    let a = l .parts .dayDecimals in
+    let b = m .parts .dayDecimals in
+    valueOf (l .parts .days ++ a) * 10 ^ length b ≤ valueOf (m .parts .days ++ b) * 10 ^ length a → r .date ≤ q .date
+
+-- ---- programs: all that they write is `listAnswer`, `packAnswer`, `rowsAnswer`, `packRowsAnswer` or `checkAnswer` of all that they read
 
 -- beyond 65,536 bytes that is `too long`; else the text of the strip, and the strip of a text of the grammar or the first bad line of any other
 abbrev pub AnswersAre : Type 0
@@ -593,6 +637,15 @@ RowAnswersAre =
     × (((j : ℕ) → j < rowCount t → inRange (columnsAt t (rowBits * j)) ≡ true)
     → (length t % rowLength ≡ 0 → packRowsAnswer t ≡ stripBytes (recordsOfRows t)) × ((length t % rowLength ≡ 0 → ⊥) → packRowsAnswer t ≡ badTail))))
 
+-- and for strips from other apps: ok, the first record and rule at fault, or bad tail; so strippack's strip of a text by the rules is ok
+abbrev pub CheckAnswersAre : Type 0
+CheckAnswersAre =
+    ((s : List ℕ) → (65536 < length s → checkAnswer s ≡ tooLongSaid)
+    × (length s ≤ 65536 →
+    (AllKeep (recordsOf s) → (tailGood s ≡ true → checkAnswer s ≡ okSaid) × (tailGood s ≡ false → checkAnswer s ≡ badTail))
+    × ((n r : ℕ) → AtFault (recordsOf s) n r → checkAnswer s ≡ faultSaid n r)))
+    × ((t : List ℕ) (rs : List Record) → GoodText t rs → AllKeep rs → length t ≤ 65536 → checkAnswer (packAnswer t) ≡ okSaid)
+
 -- no message is a strip or a table of rows, so that what was written tells which it is
 abbrev pub MessagesApart : Type 0
 MessagesApart =
@@ -604,7 +657,7 @@ MessagesApart =
 -- every answer has room in the output that a program lends
 abbrev pub AnswersFit : Type 0
 AnswersFit =
-    ((s : List ℕ) → (length (listAnswer s) ≤ 262144) × (length (rowsAnswer s) ≤ 131072))
+    ((s : List ℕ) → (length (listAnswer s) ≤ 262144) × (length (rowsAnswer s) ≤ 131072) × (length (checkAnswer s) ≤ 64))
     × ((t : List ℕ) → (length (packAnswer t) ≤ 65536) × (length (packRowsAnswer t) ≤ 65536))
 
 -- strips of up to 1,597 records with a good tail always go to text and back; one of 1,598 does not

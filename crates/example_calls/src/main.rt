@@ -6,6 +6,7 @@ use record::Record;
 use typed::Kind;
 use typed::Typed;
 use typed::TypedRead;
+use vetting::Verdict;
 use writer::Writer;
 
 fn main() {
@@ -26,6 +27,7 @@ fn main() {
     layouts();
     records();
     lists();
+    vetted();
     tables();
     lines();
     texts();
@@ -391,6 +393,16 @@ fn lists() {
     expect(b"read_strip", read.tail_good);
 }
 
+fn vetted() {
+    let zeros = [0u8; 12];
+    let verdict = vetting::vet_strip(&zeros);
+    let rule = match verdict {
+        Verdict::Broken(_number, rule) => rule,
+        _ => 0,
+    };
+    expect(b"vet_strip", rule == 3);
+}
+
 fn tables() {
     let mut table = [0u8; 18];
     let mut strip = *b"\x00\x00\x5e\x52\x77\x48\x84\x5f\x4c\x00\x61\x80";
@@ -446,6 +458,9 @@ fn whole_jobs() {
 
     let answer = jobs::pack_rows_answer(b"star", &mut out);
     expect(b"pack_rows_answer", answer.length == 9);
+
+    let answer = jobs::check_answer(b"\x00", &mut out);
+    expect(b"check_answer", answer.length == 9);
 }
 
 fn hosts() {

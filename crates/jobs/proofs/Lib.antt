@@ -3,5 +3,6 @@ mod MessageLaws
 mod RoomLaws
 mod PackLaws
 mod RowsLaws
+mod CheckLaws
 pub mod ApartLaws
 pub mod Theorems

@@ -1,16 +1,16 @@
 -- Laws of messages: bytes copied to the front of an output, and words with a number put together.
 use Prim.Native.Nat.{ℕ, _+_, _^_, _<_, _≤_}
 use mathlib.Core.Path.{_≡_, refl, sym, ap, _∙_}
-use mathlib.Core.List.{List, [], _∷_, _++_}
+use mathlib.Core.List.{List, [], _∷_, _++_, append-assoc}
 use lib.ListN.{length, take, drop, length-append}
-use lib.Seq.{sets, sets-eq, take-length, take-at, take-append-seam}
+use lib.Seq.{sets, sets-eq, take-length, take-at, take-append-seam, length-take-le}
 use native.Mathlib.Omega.{arith}
 use Rattle.bits.proofs.StoreLaws.{front}
 use Rattle.digits.specs.Digits.{ascii, newline}
 use Rattle.print.specs.Print.{places, wholeOf}
 use Rattle.print.proofs.DigitLaws.{places-few}
 use Rattle.print.proofs.StoreLaws.{part-size}
-use Rattle.jobs.specs.Jobs.{tooLongSaid, badLineSaid, badRowSaid}
+use Rattle.jobs.specs.Jobs.{tooLongSaid, badLineSaid, badRowSaid, okSaid, faultSaid}
 
 -- ---- the bytes
 
@@ -39,6 +39,21 @@ pub bad-row-is : (n : ℕ) → badRowSaid n ≡ numbered badRowBytes n
 unfolding badRowSaid ascii
 bad-row-is n = refl
 
+pub ok-is : okSaid ≡ 111 ∷ 107 ∷ 10 ∷ []
+unfolding okSaid ascii
+ok-is = refl
+
+abbrev pub recordBytes : List ℕ
+recordBytes = 114 ∷ 101 ∷ 99 ∷ 111 ∷ 114 ∷ 100 ∷ 32 ∷ []
+
+abbrev pub ruleBytes : List ℕ
+ruleBytes = 114 ∷ 117 ∷ 108 ∷ 101 ∷ 32 ∷ []
+
+-- a record and a rule, as they are put together
+pub fault-is : (n r : ℕ) → faultSaid n r ≡ numbered ((recordBytes ++ (wholeOf n ++ 32 ∷ [])) ++ ruleBytes) r
+unfolding faultSaid ascii
+fault-is n r = simp append-assoc refl
+
 -- ---- put
 
 -- bytes copied to the front
@@ -53,16 +68,32 @@ behind-front b x l n e h k =
     let z : length (b ++ x) ≡ n = length-append b x ∙ sym k in
     ap (take n) (sets-eq x l (length b) h ∙ ap (λ (y : List ℕ). (y ++ x) ++ rest) e) ∙ take-at (b ++ x) rest n z
 
--- words copied to the front, behind them a number's digits and a newline, and the place behind these
-pub numbered-put : (words rest : List ℕ) (n : ℕ) {l last : List ℕ} {at end : ℕ} → at ≡ length words
+-- words copied to the front, behind them a number's digits and a byte, and the place behind these
+pub numbered-put : (words rest : List ℕ) (n b : ℕ) {l last : List ℕ} {at end : ℕ} → at ≡ length words
     → l ≡ take (length words) words ++ rest → at + places n < length l
-    → last ≡ sets l at (wholeOf n ++ newline ∷ []) → end ≡ at + places n + 1 → take end last ≡ numbered words n
-numbered-put words rest n {l} {last} {at} {end} e c h f k =
-    let x = wholeOf n ++ newline ∷ [] in
-    let p = part-size (places n) n newline in
-    let b : take (length words) l ≡ words =
+    → last ≡ sets l at (wholeOf n ++ b ∷ []) → end ≡ at + places n + 1 → take end last ≡ words ++ (wholeOf n ++ b ∷ [])
+numbered-put words rest n b {l} {last} {at} {end} e c h f k =
+    let x = wholeOf n ++ b ∷ [] in
+    let p = part-size (places n) n b in
+    let front : take (length words) l ≡ words =
     ap (take (length words)) (c ∙ ap (λ (y : List ℕ). y ++ rest) (take-length words)) ∙ take-append-seam words rest in
-    ap (take end) (f ∙ ap (λ (j : ℕ). sets l j x) e) ∙ behind-front words x l end b (omega arith) (omega arith)
+    ap (take end) (f ∙ ap (λ (j : ℕ). sets l j x) e) ∙ behind-front words x l end front (omega arith) (omega arith)
+
+-- words copied behind the first m bytes of l, and the place behind them
+module _ (words rest z l : List ℕ) (m : ℕ) {n k : ℕ} {y : List ℕ} (h : m ≤ length l) (there : y ≡ take (length words) words ++ rest) (e : k ≡ m + n) (f : n ≡ length words) where
+  pub behind-room : k ≤ length (take m l ++ (y ++ z))
+  behind-room =
+      let a = length-append (take m l) (y ++ z) in
+      let b = length-append y z in
+      let c = ap length (there ∙ ap (λ (w : List ℕ). w ++ rest) (take-length words)) ∙ length-append words rest in
+      let d = length-take-le m l h in
+      omega arith
+
+  pub copied-behind : take k (take m l ++ (y ++ z)) ≡ take m l ++ words
+  copied-behind =
+      ap (λ (x : List ℕ). take k (take m l ++ (x ++ z))) (there ∙ ap (λ (w : List ℕ). w ++ rest) (take-length words))
+      ∙ ap (take k) (simp append-assoc refl)
+      ∙ take-at (take m l ++ words) (rest ++ z) k (length-append (take m l) words ∙ ap (λ (i : ℕ). i + length words) (length-take-le m l h) ∙ omega arith)
 
 -- how long it is
 pub numbered-length : (words : List ℕ) (n : ℕ) → length (numbered words n) ≡ length words + (places n + 1)

@@ -1,33 +1,41 @@
 -- What is promised of whole jobs, in words of the definitions.
 use Prim.Native.Nat.{ℕ, suc, _*_, _%_, _^_, _<_, _≤_}
-use mathlib.Core.Path.{_≡_, refl, sym, ap, _∙_}
+use mathlib.Core.Path.{_≡_, refl, sym, ap, _∙_, subst}
 use mathlib.Core.Bool.{true, false, _&&_}
 use mathlib.Core.List.{List, []}
-use lib.ListN.{length, getD}
+use lib.ListN.{length, take, getD}
 use lib.Dec.{ltb}
 use native.Mathlib.Omega.{arith}
 use borrow.Author.Tests.{ltb-true, ltb-false}
+use Rattle.bits.specs.Refusals.{done}
 use Rattle.bits.proofs.TestLaws.{both, both-true, by-test}
 use Rattle.record.specs.declared.Record.{Record}
 use Rattle.record.specs.Record.{recordBits}
 use Rattle.strip.specs.Strip.{stripBytes, countOf, recordsOf, tailGood}
-use Rattle.strip.proofs.StripLaws.{strip-same}
+use Rattle.strip.proofs.StripLaws.{length-strip, strip-same}
+use Rattle.strip.proofs.Theorems.{strip-there-and-back}
+use Rattle.vetting.specs.declared.Verdict.the-variants.{Fine}
+use Rattle.vetting.specs.Rules.{AllKeep, AtFault}
+use Rattle.vetting.specs.Verdicts.{verdictOf}
+use Rattle.vetting.proofs.Theorems.{strip-fine}
 use Rattle.rows.specs.Row.{columnsAt, inRange, rowLength, rowBits}
 use Rattle.rows.specs.Rows.{rowsBytes, stripRows, rowCount, recordsOfRows}
 use Rattle.rows.proofs.AnswerLaws.{good-rows, good-length, whole-strip}
 use Rattle.rows.proofs.Theorems.{strip-rows-strip, bad-row-exactly, no-bad-row}
 use Rattle.text.specs.Text.{header, badTail, textOf, headed, Lines, bodyOf}
 use Rattle.text.specs.Grammar.{GoodText, FirstBad}
-use Rattle.text.specs.Answers.{packOf}
+use Rattle.text.specs.Answers.{packOf, packOut}
+use Rattle.text.proofs.AnswerLaws.{pack-tests}
 use Rattle.text.proofs.ListLaws.{text-few}
 use Rattle.text.proofs.LongestLaws.{text-short, text-long, long-strip}
 use Rattle.text.proofs.GrammarLaws.{headed-append}
 use Rattle.text.proofs.BadLineLaws.{bad-line-exactly}
-use Rattle.text.proofs.Theorems.{good-head, good-body, text-there-and-back}
-use Rattle.jobs.specs.Jobs.{mostTaken, tooLongSaid, badLineSaid, badRowSaid, listAnswer, packAnswer, rowsAnswer, packRowsAnswer}
+use Rattle.text.proofs.Theorems.{good-head, good-body, good-fits, packed-strip, text-there-and-back}
+use Rattle.jobs.specs.Jobs.{mostTaken, tooLongSaid, badLineSaid, badRowSaid, okSaid, faultSaid, listAnswer, packAnswer, rowsAnswer, packRowsAnswer, checkAnswer}
 use Rattle.jobs.proofs.MessageLaws.{too-long-is}
 use Rattle.jobs.proofs.AnswerLaws.{list-long, list-short}
 use Rattle.jobs.proofs.PackLaws.{pack-long, pack-good, pack-said, pack-few}
+use Rattle.jobs.proofs.CheckLaws.{check-long, check-ok, check-fault, check-tail, check-few}
 use Rattle.jobs.proofs.RowsLaws.{rows-long, rows-good, rows-bad, rows-few}
 use Rattle.jobs.proofs.RowsLaws.{pack-rows-long, pack-rows-bad, pack-rows-good, pack-rows-cut, pack-rows-few}
 
@@ -52,6 +60,10 @@ pack-room = room packAnswer 28024 pack-long pack-few (omega arith)
 -- rows-room: no rows job's answer has more bytes
 pub rows-room : (s : List ℕ) → length (rowsAnswer s) ≤ 106020
 rows-room = room rowsAnswer 106020 rows-long rows-few (omega arith)
+
+-- check-room: no check job's answer has more bytes
+pub check-room : (s : List ℕ) → length (checkAnswer s) ≤ 34
+check-room = room checkAnswer 34 check-long check-few (omega arith)
 
 -- pack-rows-room: no row pack job's answer has more bytes
 pub pack-rows-room : (t : List ℕ) → length (packRowsAnswer t) ≤ 40495
@@ -99,6 +111,34 @@ pack-rows-is t = (
     λ all. let none = no-bad-row t .1 all in (pack-rows-good t h none, pack-rows-cut t h none),
   ),
 )
+
+-- check-is: ok exactly where every record keeps every rule and the tail is good, else the first record and rule at fault, else the tail
+pub check-is : (s : List ℕ) → (65536 < length s → checkAnswer s ≡ tooLongSaid)
+    × (length s ≤ 65536
+    → (AllKeep (recordsOf s) → (tailGood s ≡ true → checkAnswer s ≡ okSaid) × (tailGood s ≡ false → checkAnswer s ≡ badTail))
+    × ((n r : ℕ) → AtFault (recordsOf s) n r → checkAnswer s ≡ faultSaid n r))
+check-is s = (check-long s, λ h. (λ all. (check-ok s h all, check-tail s h all), check-fault s h))
+
+-- ---- packed and checked
+
+-- packed-fine: a text whose lines' records keep every rule, packed by pack_text, is accepted
+pub packed-fine : (t out : List ℕ) (rs : List Record) → GoodText t rs → AllKeep rs → packOf t (length out) .refusal ≡ done
+    → verdictOf (take (packOf t (length out) .length) (packOut t out)) ≡ Fine
+unfolding packOf
+packed-fine t out rs g all z =
+    let (short, short-out, _, _, room) = pack-tests t (length out) z in
+    let count : length (bodyOf t .records) ≡ length rs = ap (λ (l : Lines). length (l .records)) (good-body g) in
+    let size = length-strip rs in
+    ap verdictOf (packed-strip out g short short-out (omega arith)) ∙ strip-fine rs (good-fits g) all (omega arith)
+
+-- packed-ok: and strippack's strip of such a text is told to be ok
+pub packed-ok : (t : List ℕ) (rs : List Record) → GoodText t rs → AllKeep rs → length t ≤ 65536 → checkAnswer (packAnswer t) ≡ okSaid
+packed-ok t rs g all short =
+    let made = pack-is t .1 short .0 rs g in
+    let room = pack-room t in
+    let size = ap length made in
+    let (records, tail) = strip-there-and-back rs (good-fits g) in
+    ap checkAnswer made ∙ check-ok (stripBytes rs) (omega arith) (subst AllKeep (sym records) all) tail
 
 -- ---- there and back
 

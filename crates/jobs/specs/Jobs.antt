@@ -7,6 +7,9 @@ use lib.Dec.{eqb, ltb}
 use Rattle.digits.specs.Digits.{ascii, newline}
 use Rattle.print.specs.Print.{wholeOf}
 use Rattle.strip.specs.Strip.{stripBytes, recordsOf, tailGood}
+use Rattle.vetting.specs.declared.Verdict.{Verdict}
+use Rattle.vetting.specs.declared.Verdict.the-variants.{Fine, Broken, BadTail, Refused}
+use Rattle.vetting.specs.Verdicts.{verdictOf}
 use Rattle.rows.specs.Rows.{rowsBytes, rowsWhole, recordsOfRows, firstBad}
 use Rattle.text.specs.Text.{header, badTail, textOf, headed, bodyOf, badLineOf}
 
@@ -25,6 +28,21 @@ badLineSaid n = ascii "bad line " ++ (wholeOf n ++ newline ∷ [])
 -- the message for a table whose row n is the first bad one
 unfoldable pub badRowSaid : ℕ → List ℕ
 badRowSaid n = ascii "bad row " ++ (wholeOf n ++ newline ∷ [])
+
+-- the line for a strip that is accepted
+unfoldable pub okSaid : List ℕ
+okSaid = ascii "ok" ++ newline ∷ []
+
+-- the line for a strip whose record n is the first at fault, by rule r
+unfoldable pub faultSaid : ℕ → ℕ → List ℕ
+faultSaid n r = ascii "record " ++ (wholeOf n ++ (ascii " rule " ++ (wholeOf r ++ newline ∷ [])))
+
+-- the line for a verdict
+unfoldable pub verdictSaid : Verdict → List ℕ
+verdictSaid Fine = okSaid
+verdictSaid (Broken n r) = faultSaid n r
+verdictSaid BadTail = badTail
+verdictSaid (Refused e) = tooLongSaid
 
 -- all that striplist writes: the text of the strip, or too long
 unfoldable pub listAnswer : List ℕ → List ℕ
@@ -45,3 +63,7 @@ unfoldable pub packRowsAnswer : List ℕ → List ℕ
 packRowsAnswer t =
     cond (ltb mostTaken (length t)) tooLongSaid
     (cond (eqb (firstBad t) 0) (cond (rowsWhole t) (stripBytes (recordsOfRows t)) badTail) (badRowSaid (firstBad t)))
+
+-- all that stripcheck writes: the verdict on the strip, or too long
+unfoldable pub checkAnswer : List ℕ → List ℕ
+checkAnswer s = cond (ltb mostTaken (length s)) tooLongSaid (verdictSaid (verdictOf s))

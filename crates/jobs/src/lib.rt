@@ -1,9 +1,10 @@
 // Whole jobs: all that a program reads to all that it writes.
 use bits::refusals;
 use rows::ROW_LENGTH;
+use vetting::Verdict;
 ghost use mathlib.Core.Path.{_≡_};
 ghost use lib.ListN.{length};
-ghost use Rattle.jobs.specs.Jobs.{listAnswer, packAnswer, rowsAnswer, packRowsAnswer};
+ghost use Rattle.jobs.specs.Jobs.{listAnswer, packAnswer, rowsAnswer, packRowsAnswer, checkAnswer};
 ghost use Rattle.jobs.specs.Answers.{answeredOf, answeredOut};
 
 pub mod inner;
@@ -100,4 +101,25 @@ pub fn pack_rows_answer(input: &[u8], out: &mut [u8]) -> Answered
         };
     }
     inner::say(b"bad tail\n", out)
+}
+
+// All that stripcheck writes for a strip: `ok` where it keeps the rules and its tail is good, `record N rule R` for the first record at
+// fault, `bad tail`, or `too long` for more than 65,536 bytes. Refusals 1 and 8, for the output alone and before the first byte; what lies
+// past the answer is untouched.
+//     let answer = jobs::check_answer(b"\x00", &mut out);
+//     expect(b"check_answer", answer.length == 9);
+pub fn check_answer(input: &[u8], out: &mut [u8]) -> Answered
+    ensures answer { λ r. ⌜ r ≡ answeredOf (checkAnswer (now (input .entry))) (length (now (out .entry))) ⌝ }
+    ensures memory { λ _. ⌜ now (out .exit) ≡ answeredOut (checkAnswer (now (input .entry))) (now (out .entry)) ⌝ }
+{
+    if MOST_TAKEN < input.len() {
+        return inner::say(b"too long\n", out);
+    }
+    let verdict = vetting::vet_strip(input);
+    match verdict {
+        Verdict::Fine => inner::say(b"ok\n", out),
+        Verdict::Broken(number, rule) => inner::say_fault(number as u32, rule, out),
+        Verdict::BadTail => inner::say(b"bad tail\n", out),
+        Verdict::Refused(_) => inner::say(b"too long\n", out),
+    }
 }

@@ -2,13 +2,16 @@
 use Prim.Native.Nat.{ℕ, suc, _+_, _-_, _*_, _/_, _^_, _<_, _≤_}
 use mathlib.Core.Path.{_≡_, sym, ap, _∙_, subst}
 use mathlib.Core.Logic.{_↔_}
-use native.Mathlib.Nat.{zero-lt-suc, one-le-pow, mul-comm, mul-assoc, mul-left-comm, pow-suc, mul-div-le, lt-mul-div-succ, div-eq-of-lt-le, mul-add-div, add-mul-div-right, mul-div-mul-left, div-div-eq-div-mul}
+use native.Mathlib.Nat.{zero-lt-suc, one-le-pow, add-mul, mul-comm, mul-assoc, mul-left-comm, mul-suc, mul-le-mul-left, pow-suc, mul-div-le, lt-mul-div-succ, div-eq-of-lt-le, mul-add-div, add-mul-div-right, mul-div-mul-left, div-div-eq-div-mul}
 use native.Mathlib.Omega.{arith}
 use lib.Pow.{pow-add}
+use lib.Dec.{ltb}
+use borrow.Author.Tests.{ltb-true, ltb-false}
+use Rattle.bits.proofs.TestLaws.{by-test}
 use Rattle.line.specs.Date.{day, unitsOf, Nearest}
 
 -- a power of ten is no zero
-ten-some : (n : ℕ) → 0 < 10 ^ n
+pub ten-some : (n : ℕ) → 0 < 10 ^ n
 ten-some n = one-le-pow n 10 (zero-lt-suc 9)
 
 -- m / k, and no other number u, has k u ≤ m < k (u + 1)
@@ -26,6 +29,23 @@ units-nearest w v d u h =
     let some = ten-some (d - 5) in
     let e : 5 + (d - 5) ≡ d = omega arith in
     subst (λ (x : ℕ). Nearest (w * 10 ^ x + v) p u ↔ (u ≡ unitsOf w v d)) e (quotient _ (2 * p) u (omega arith))
+
+-- what is nearest to the smaller of two, n of p and m of q to a unit, is not above what is nearest to the other
+pub nearest-order : (n p u m q v : ℕ) → 0 < p → Nearest n p u → Nearest m q v → n * q ≤ m * p → u ≤ v
+nearest-order n p u m q v some a b le =
+    by-test (ltb v u)
+    (λ t.
+    let c = mul-le-mul-left (p * q) (ltb-true v u t) in
+    let d = mul-le-mul-left q (a .0) in
+    let e = mul-le-mul-left p (b .1) in
+    let above : q * (2 * p * u) ≡ 2 * (p * q * u) = mul-left-comm q (2 * p) u ∙ mul-assoc 2 p (q * u) ∙ ap (λ (x : ℕ). 2 * x) (sym (mul-assoc p q u)) in
+    let first : q * (2 * n + p) ≡ 2 * (n * q) + p * q = mul-comm q (2 * n + p) ∙ add-mul (2 * n) p q ∙ ap (λ (x : ℕ). x + p * q) (mul-assoc 2 n q) in
+    let second : p * suc (2 * m + q) ≡ 2 * (m * p) + p * q + p =
+    mul-suc p (2 * m + q) ∙ ap (λ (x : ℕ). x + p) (mul-comm p (2 * m + q) ∙ add-mul (2 * m) q p ∙ omega (arith, mul-assoc 2 m p, mul-comm q p)) in
+    let below : p * (2 * q * (v + 1)) ≡ 2 * (p * q * suc v) =
+    mul-left-comm p (2 * q) (v + 1) ∙ mul-assoc 2 q (p * (v + 1)) ∙ ap (λ (x : ℕ). 2 * x) (mul-left-comm q p (v + 1) ∙ sym (mul-assoc p q (v + 1)) ∙ ap (λ (x : ℕ). p * q * x) (omega arith)) in
+    absurd (omega arith))
+    (λ t. ltb-false v u t)
 
 -- days apart from decimals
 units-split : (w v d : ℕ) → let p = 10 ^ (d - 5) in unitsOf w v d ≡ day * w + (2 * v + p) / (2 * p)

@@ -6,7 +6,9 @@ use mathlib.Core.Bool.{true, false, cond, _&&_}
 use mathlib.Core.List.{List, [], _∷_, _++_}
 use lib.ListN.{length, getD, take}
 use lib.Dec.{leb, ltb}
+use native.Mathlib.Nat.{mul-left-comm}
 use native.Mathlib.Omega.{arith}
+use lib.Pow.{pow-add}
 use borrow.Author.Tests.{le-ltb}
 use Rattle.bits.specs.Refusals.{longest, done, badLine, orElse, firstRefusal}
 use Rattle.bits.proofs.TestLaws.{both, by-test}
@@ -15,10 +17,10 @@ use Rattle.record.specs.declared.Record.{Record}
 use Rattle.record.specs.Record.{dateBits, noRecord}
 use Rattle.digits.specs.Digits.{comma, point, zeroDigit, Digits, valueOf}
 use Rattle.digits.proofs.RunLaws.{value-append, split-same}
-use Rattle.line.specs.Date.{unitsOf, Nearest}
+use Rattle.line.specs.Date.{day, unitsOf, Nearest}
 use Rattle.line.specs.Grammar.{spelled, meant, Line}
 use Rattle.line.specs.Reading.{begins, firstOf, behind, isNil, lineRead, lineRefusal, readLine}
-use Rattle.line.proofs.DateLaws.{units-nearest, units-five}
+use Rattle.line.proofs.DateLaws.{ten-some, units-nearest, units-five, nearest-order}
 use Rattle.line.proofs.SixthLaws.{units-sixth}
 use Rattle.line.proofs.SpelledLaws.{begins-spelled, first-spelled, behind-spelled}
 use Rattle.line.proofs.ReadLaws.{begins-good}
@@ -95,6 +97,25 @@ module _ {s : List ℕ} {r : Record} (l : Line s r) where
   -- sixth-decides: of more it is that of the first five, and a unit more where the sixth is 5 or above
   pub sixth-decides : 6 ≤ length decimals → r .date ≡ valueOf (days ++ take 5 decimals) + cond (leb (zeroDigit + 5) (getD decimals 5 0)) 1 0
   sixth-decides more = by-rule ∙ units-sixth days decimals (l .good .dayDecimals .digits) more
+
+-- dates-in-order: a date that is spelled as no more than another's names no more units
+pub dates-in-order : {s t : List ℕ} {r q : Record} (l : Line s r) (m : Line t q) →
+    let a = l .parts .dayDecimals in
+    let b = m .parts .dayDecimals in
+    valueOf (l .parts .days ++ a) * 10 ^ length b ≤ valueOf (m .parts .days ++ b) * 10 ^ length a → r .date ≤ q .date
+dates-in-order {s} {t} {r} {q} l m le =
+    let a = l .parts .dayDecimals in
+    let b = m .parts .dayDecimals in
+    let x = valueOf (l .parts .days ++ a) in
+    let y = valueOf (m .parts .days ++ b) in
+    let p = 10 ^ (length a - 5) in
+    let o = 10 ^ (length b - 5) in
+    let first : y * 10 ^ length a ≡ day * (y * p) = ap (λ (k : ℕ). y * k) (behind-fifth (length a) (l .good .dayDecimals .enough)) ∙ mul-left-comm y day p in
+    let second : x * 10 ^ length b ≡ day * (x * o) = ap (λ (k : ℕ). x * k) (behind-fifth (length b) (m .good .dayDecimals .enough)) ∙ mul-left-comm x day o in
+    nearest-order x p (r .date) y o (q .date) (ten-some (length a - 5)) (nearest-date l (r .date) .1 refl) (nearest-date m (q .date) .1 refl) (omega arith)
+  where
+    behind-fifth : (d : ℕ) → 5 ≤ d → 10 ^ d ≡ day * 10 ^ (d - 5)
+    behind-fifth d h = let e : d ≡ 5 + (d - 5) = omega arith in ap (λ (k : ℕ). 10 ^ k) e ∙ pow-add 10 5 (d - 5)
 
 -- date-bound: a text whose second number is a date that comes to 2^38 units or more is refused as a bad line, whatever else is in it
 pub date-bound : (star days decimals rest : List ℕ) → Digits star → Digits days → Digits decimals →

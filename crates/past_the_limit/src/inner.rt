@@ -1,9 +1,10 @@
 // The calls by number.
 use bits::Order;
 use reader::Cursor;
+use vetting::Verdict;
 use writer::Writer;
 
-// The calls that read the slice, by number: 0 to 11 the cursor's, 12 to 19 the others, from 20 on those of rows.
+// The calls that read the slice, by number: 0 to 11 the cursor's, 12 to 19 the others, from 20 on those of rows, and the verdict.
 #[no_mangle]
 pub extern "C" fn limits_read(call: u32, src: &[u8]) -> u32 {
     if call < 12 {
@@ -77,13 +78,22 @@ fn other_call(call: u32, src: &[u8]) -> u32 {
     }
 }
 
-// A row, a strip and rows.
+// A row, a strip and rows, and a strip that is vetted.
 fn row_call(call: u32, src: &[u8]) -> u32 {
     let mut small = [0u8; 16];
     match call {
         20 => rows::read_row(src).refusal,
         21 => rows::strip_to_rows(src, &mut small).refusal,
-        _ => rows::rows_to_strip(src, &mut small).refusal,
+        22 => rows::rows_to_strip(src, &mut small).refusal,
+        _ => refusal_in(vetting::vet_strip(src)),
+    }
+}
+
+// The refusal number of a verdict.
+fn refusal_in(verdict: Verdict) -> u32 {
+    match verdict {
+        Verdict::Refused(refusal) => refusal,
+        _ => 0,
     }
 }
 

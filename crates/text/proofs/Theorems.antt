@@ -38,6 +38,10 @@ good-body g =
     let l = g .lines in
     ap bodyOf (g .text) ∙ body-append (g .body) ∙ ap linesOf (l .text) ∙ spelled-lines (l .parts) (l .good) ∙ ap allRead (sym (l .names))
 
+-- which fit
+pub good-fits : {t : List ℕ} {rs : List Record} → GoodText t rs → allFit rs ≡ true
+good-fits {t} g = ap (λ (l : Lines). allFit (l .records)) (sym (good-body g)) ∙ body-fits t
+
 -- text-packs: such a text within the limit packs wherever there is room, into the strip of its records
 pub text-packs : {t : List ℕ} {rs : List Record} (out : List ℕ) → GoodText t rs → length t ≤ longest → length out ≤ longest → stripLength (length rs) ≤ length out
     → (packOf t (length out) ≡ packed done (stripLength (length rs)) 0) × (packOut t out ≡ sets out 0 (stripBytes rs))
@@ -64,8 +68,7 @@ good-text-of s e =
 pub text-again : {t : List ℕ} {rs : List Record} (out : List ℕ) (g : GoodText t rs) → AllFive (g .lines .parts) → length t ≤ longest → length out ≤ longest
     → stripLength (length rs) ≤ length out → textOf (take (packOf t (length out) .length) (packOut t out)) ≡ t
 text-again {t} {rs} out g decimals short short-out room =
-    let fit : allFit rs ≡ true = ap (λ (l : Lines). allFit (l .records)) (sym (good-body g)) ∙ body-fits t in
-    let (records, tail) = strip-there-and-back rs fit in
+    let (records, tail) = strip-there-and-back rs (good-fits g) in
     ap textOf (packed-strip out g short short-out room)
     ∙ good-text-of (stripBytes rs) tail
     ∙ ap (λ (l : List Record). header ++ listed l) records

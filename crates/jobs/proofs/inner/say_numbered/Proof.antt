@@ -4,6 +4,7 @@ use mathlib.Core.Path.{_≡_, sym}
 use lib.ListN.{take}
 use lib.Seq.{length-take-le}
 use native.Mathlib.Omega.{arith}
+use Rattle.digits.specs.Digits.{newline}
 use Rattle.print.proofs.DigitLaws.{places-few}
 use Rattle.jobs.proofs.MessageLaws.{numbered, numbered-put}
 use borrow.Author.Needs.{needs}
@@ -52,7 +53,7 @@ returns c =
     let a = put .before .before .before .before .before .before .before .args in
     let room = put-whole-requires (put .before) (p .lifetimes) in
     let e : take (p .result) (p .last .0) ≡ numbered (a .words .now) (a .number) =
-    numbered-put (a .words .now) _ (a .number) (m .ensures .0) (m .ensures .1) room (p .ensures .1) (p .ensures .0) in
+    numbered-put (a .words .now) _ (a .number) newline (m .ensures .0) (m .ensures .1) room (p .ensures .1) (p .ensures .0) in
     rw (sym e) (said .ensures .0, said .ensures .1)
 
 pub say-numbered-spec : {M : Type 1} → statement M

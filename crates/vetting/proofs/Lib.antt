@@ -1,0 +1,3 @@
+pub mod VerdictLaws
+pub mod RuleLaws
+pub mod Theorems
