@@ -1,14 +1,16 @@
 #!/usr/bin/env python3
-"""The strip format without the library: a strip as text or as FITS rows, and back, by the words of docs/FORMAT.md alone.
+"""The strip format without the library: a strip as text or as FITS rows, and back, and whether it keeps the rules for filing, by the words
+of docs/FORMAT.md alone.
 
     python3 examples/strip.py list < examples/night.strip
     python3 examples/strip.py pack < examples/night.txt > night.strip
     python3 examples/strip.py rows < examples/night.strip > night.rows
     python3 examples/strip.py packrows < night.rows > night.strip
+    python3 examples/strip.py check < examples/night.strip
 
-It writes what the programs striplist, strippack, striprows and rowspack write, byte by byte. The status is 1 where a message stands there
-(`bad tail`, `bad line N`, `bad row N`, `too long`), else 0. Bits are kept as text of 0 and 1, to be easy to follow rather than fast. Every number is a whole
-number of units: a float would spoil the last digits of a date.
+It writes what the programs striplist, strippack, striprows, rowspack and stripcheck write, byte by byte. The status is 1 where a message
+stands there (`bad tail`, `bad line N`, `bad row N`, `record N rule R`, `too long`), else 0. Bits are kept as text of 0 and 1, to be easy to
+follow rather than fast. Every number is a whole number of units: a float would spoil the last digits of a date.
 """
 import re
 import struct
@@ -166,8 +168,25 @@ def pack_rows(rows):
     return strip_of(bits), True
 
 
+# ---- the rules for filing
+
+
+def check_strip(strip):
+    """what stripcheck writes, and whether it is `ok`"""
+    if len(strip) > MOST_BYTES:
+        return b"too long\n", False
+    records, good = records_of(strip)
+    above = 0  # no date is below 0: the first record keeps rule 1
+    for number, (_, date, limit, _, error, filter) in enumerate(records, 1):
+        kept = [date >= above, filter <= 9, error > 0 or limit == 1]
+        if not all(kept):
+            return b"record %d rule %d\n" % (number, kept.index(False) + 1), False
+        above = date
+    return (b"ok\n" if good else b"bad tail\n"), good
+
+
 def main(words):
-    jobs = {"list": list_strip, "pack": pack_text, "rows": rows_of, "packrows": pack_rows}
+    jobs = {"list": list_strip, "pack": pack_text, "rows": rows_of, "packrows": pack_rows, "check": check_strip}
     if len(words) != 1 or words[0] not in jobs:
         print(__doc__, file=sys.stderr)
         return 2

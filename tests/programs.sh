@@ -1,6 +1,6 @@
 #!/bin/sh
-# striplist and strippack, and ./strip over them, on good, damaged, short and overlong inputs: whole outputs are compared with what the
-# rules of docs/FORMAT.md give, worked out by hand. Run, once both are built: sh tests/programs.sh
+# striplist, strippack and stripcheck, and ./strip over them, on good, damaged, short and overlong inputs: whole outputs are compared with
+# what the rules of docs/FORMAT.md give, worked out by hand. Run, once all three are built: sh tests/programs.sh
 set -u
 cd "$(dirname "$0")/.." || exit 2
 script=programs
@@ -185,6 +185,181 @@ done >"$work/out"
 cmp -s "$work/out" "$work/long" || fail 'a long night in pieces is not that night again'
 count=$((count + 1))
 
+# ---- stripcheck
+check() { # NAME BYTES(printf) VERDICT
+    printf "$2" >"$work/in"
+    echo "$3" >"$work/want"
+    same stripcheck "$1"
+}
+check 'an empty strip' '' ok
+check 'the worked record' "$record" ok
+zeros='\000\000\000\000\000\000\000\000\000\000\000'
+ones='\377\377\377\377\377\377\377\377\377\377\377'
+check 'a record of zeros' "$zeros\000" 'record 1 rule 3'
+check 'a record of ones' "$ones\200" 'record 1 rule 2'
+check 'a lone zero byte: eight bits are left' '\000' 'bad tail'
+check 'eleven bytes: 88 bits are left' "$zeros" 'bad tail'
+check 'a bit set in the tail of seven' '\000\000\136\122\167\110\204\137\114\000\141\201' 'bad tail'
+check 'the highest bit of the tail set' '\000\000\136\122\167\110\204\137\114\000\141\300' 'bad tail'
+check 'one byte more: 15 bits are left' "$record\000" 'bad tail'
+check 'a fault, then one byte more' "$zeros\000\000" 'record 1 rule 3'
+check 'a fault, then bits set in the tail' "$ones\377" 'record 1 rule 2'
+
+# the strip of records, a line DATE,LIMIT,ERROR,FILTER each; stars and magnitudes, which no rule is about, have this bit throughout
+strip() { # BIT
+    printf "$(awk -F , -v bit="$1" '
+        function put(n, width) {
+            if (width > 1) put(int(n / 2), width - 1)
+            byte = 2 * byte + n % 2
+            if (++bits % 8 == 0) { printf "\\%03o", byte; byte = 0 }
+        }
+        { put(bit * 1048575, 20); put($1, 38); put($2, 1); put(bit * 65535, 16); put($3, 10); put($4, 4) }
+        END { while (bits % 8) put(0, 1) }')"
+}
+echo 246052364817,0,12,3 | strip 0 >"$work/in"
+printf '\000\000\016\122\167\110\204\100\000\000\141\200' | cmp -s - "$work/in" || fail 'the worked record is put together wrongly'
+echo 274877906943,1,1023,15 | strip 1 >"$work/in"
+printf "$ones\200" | cmp -s - "$work/in" || fail 'the record of ones is put together wrongly'
+records() { # NAME VERDICT RECORD ..
+    name=$1
+    echo "$2" >"$work/want"
+    shift 2
+    for bit in 0 1; do
+        printf '%s\n' "$@" | strip $bit >"$work/in"
+        same stripcheck "$name, the other bits $bit"
+    done
+}
+good=246052364817,0,12,3
+later=246052364818,0,12,3
+records 'a good record' ok $good
+records 'five good records' ok $good $good $later $later 246052400000,1,0,9
+
+# rule 1: the first record has no date above it, so the second is the first that can break it
+early=246052364816,0,12,3
+records 'equal dates' ok $good $good $good
+records 'a date a unit later' ok $good $later
+records 'date 0 first' ok 0,0,12,3 $good
+records 'date 0 twice' ok 0,0,12,3 0,0,12,3
+records 'the largest date first' ok 274877906943,0,12,3
+records 'the largest date twice' ok 274877906943,0,12,3 274877906943,0,12,3
+records 'date 0, then the largest' ok 0,0,12,3 274877906943,0,12,3
+records 'a date a unit before the one above it' 'record 2 rule 1' $good $early
+records 'the largest date, then 0' 'record 2 rule 1' 274877906943,0,12,3 0,0,12,3
+records 'rule 1 at the second of five' 'record 2 rule 1' $good $early $good $good $later
+records 'rule 1 at the third of five' 'record 3 rule 1' $good $good $early $good $later
+records 'rule 1 at the last of five' 'record 5 rule 1' $good $good $good $later $good
+records 'two dates that fall' 'record 2 rule 1' $later $good $early
+records 'a date before the one above it, but not before the first' 'record 3 rule 1' $early $later $good
+for k in 1 8 16 31 32 37; do
+    power=$((1 << k))
+    records "date 2^$k - 1, then 2^$k" ok $((power - 1)),0,12,3 $power,0,12,3
+    records "date 2^$k, then 2^$k - 1" 'record 2 rule 1' $power,0,12,3 $((power - 1)),0,12,3
+done
+
+# rule 2
+for filter in 0 1 2 3 4 5 6 7 8 9; do
+    records "filter $filter" ok 246052364817,0,12,$filter
+done
+for filter in 10 11 12 13 14 15; do
+    records "filter $filter" 'record 1 rule 2' 246052364817,0,12,$filter
+done
+wrong=246052364817,0,12,10
+records 'rule 2 at the first of five' 'record 1 rule 2' $wrong $good $good $good $good
+records 'rule 2 at the third of five' 'record 3 rule 2' $good $good $wrong $good $later
+records 'rule 2 at the last of five' 'record 5 rule 2' $good $good $good $good $wrong
+records 'two filters above 9' 'record 2 rule 2' $good $wrong $wrong
+
+# rule 3
+records 'error 0 with limit 1' ok 246052364817,1,0,3
+for error in 1 2 4 8 16 32 64 128 256 512 1023; do
+    records "error $error with limit 0" ok 246052364817,0,$error,3
+done
+records 'error 1 with limit 1' ok 246052364817,1,1,3
+records 'error 0 with limit 0' 'record 1 rule 3' 246052364817,0,0,3
+bare=246052364817,0,0,3
+records 'rule 3 at the first of five' 'record 1 rule 3' $bare $good $good $good $good
+records 'rule 3 at the third of five' 'record 3 rule 3' $good $good $bare $good $later
+records 'rule 3 at the last of five' 'record 5 rule 3' $good $good $good $good $bare
+records 'limit 1 in the records around' 'record 2 rule 3' 246052364817,1,0,3 $bare 246052364817,1,0,3
+
+# of a record's faults the first rule, of the records at fault the first
+records 'rules 1, 2 and 3' 'record 2 rule 1' $good 246052364816,0,0,10
+records 'rules 1 and 2' 'record 2 rule 1' $good 246052364816,0,12,10
+records 'rules 1 and 3' 'record 2 rule 1' $good 246052364816,0,0,3
+records 'rules 2 and 3' 'record 2 rule 2' $good 246052364817,0,0,10
+records 'rules 2 and 3 at the first' 'record 1 rule 2' 0,0,0,15
+records 'rule 2, then rule 1' 'record 1 rule 2' $wrong $early
+records 'rule 3, then rule 1' 'record 1 rule 3' $bare $early
+records 'rule 3, then rule 2' 'record 2 rule 3' $good $bare $wrong
+records 'rule 3, then all three' 'record 2 rule 3' $good $bare 246052364816,0,0,10
+
+# tails of seven, eight and two records: one bit, none, six
+printf '%s\n' $good $good $good $good $good $good $good >"$work/seven"
+strip 0 <"$work/seven" >"$work/strip"
+cp "$work/strip" "$work/in" && echo ok >"$work/want"
+same stripcheck 'a tail of one bit'
+{ head -c 77 "$work/strip"; printf '\207'; } >"$work/in" # error 12 and filter 3 end in 1000011
+echo 'bad tail' >"$work/want"
+same stripcheck 'a tail of one bit that is set'
+{ cat "$work/seven"; echo $later; } | strip 0 >"$work/in"
+[ "$(wc -c <"$work/in" | tr -d ' ')" = 89 ] || fail 'eight records have no 89 bytes'
+echo ok >"$work/want"
+same stripcheck 'eight records, no tail'
+printf '\000' >>"$work/in"
+echo 'bad tail' >"$work/want"
+same stripcheck 'eight records and a zero byte'
+{ printf '%s\n' $good $early | strip 0; printf '\000'; } >"$work/in"
+echo 'record 2 rule 1' >"$work/want"
+same stripcheck 'a fault in the last record, then one byte more'
+
+# long ones: 5,890 records have 65,527 bytes, and 65,528 have a bad tail
+night() { # COUNT: so many good records, each three units after the one above it
+    awk -v n="$1" 'BEGIN { for (i = 0; i < n; i++) printf "%.0f,0,12,3\n", 246052364817 + 3 * i }'
+}
+night 5890 | strip 0 >"$work/long"
+[ "$(wc -c <"$work/long" | tr -d ' ')" = 65527 ] || fail '5,890 records have no 65,527 bytes'
+long() { # NAME VERDICT BYTES: the 5,890 records and so many zero bytes
+    { cat "$work/long"; head -c "$3" /dev/zero; } >"$work/in"
+    echo "$2" >"$work/want"
+    same stripcheck "$1"
+}
+long '5,890 good records' ok 0
+long '65,528 bytes' 'bad tail' 1
+long '65,536 bytes' 'bad tail' 9
+long '65,537 bytes' 'too long' 10
+long '265,527 bytes' 'too long' 200000
+echo 'record 1 rule 3' >"$work/want"
+head -c 65536 /dev/zero >"$work/in"
+same stripcheck '65,536 bytes of zeros'
+echo 'too long' >"$work/want"
+head -c 65537 /dev/zero >"$work/in"
+same stripcheck '65,537 bytes of zeros'
+head -c 300000 /dev/zero >"$work/in"
+same stripcheck '300,000 bytes of zeros'
+for n in 9 10 99 100 999 1000 5890; do
+    for fault in 1,0,12,3:1 274877906943,0,12,10:2 274877906943,0,0,3:3; do
+        { night $((n - 1)); echo "${fault%:*}"; } | strip 1 >"$work/in"
+        echo "record $n rule ${fault#*:}" >"$work/want"
+        same stripcheck "record $n breaks rule ${fault#*:}"
+    done
+done
+
+# the strips that docs/FORMAT.md gives as breaking a rule: rows with bytes in hex and the verdict, both between back quotes
+awk -F ' *[|] *' '
+    function hex(digit) { return index("0123456789ABCDEF", digit) - 1 }
+    /^## / { on = $0 == "## Rules for filing" }
+    on && $4 ~ /^`.*`$/ && $5 ~ /^`.*`$/ {
+        if ($4 !~ /^`([0-9A-F][0-9A-F] )*[0-9A-F][0-9A-F]`$/) exit 1
+        count = split(substr($4, 2, length($4) - 2), byte, " ")
+        for (i = 1; i <= count; i++) printf "\\%03o", 16 * hex(substr(byte[i], 1, 1)) + hex(substr(byte[i], 2, 1))
+        print " " substr($5, 2, length($5) - 2)
+    }' docs/FORMAT.md >"$work/rules" || fail 'docs/FORMAT.md: a strip in the rules for filing is no bytes in hex'
+[ "$(wc -l <"$work/rules")" -ge 5 ] || fail 'docs/FORMAT.md: fewer than five strips in the rules for filing'
+while read -r bytes verdict; do
+    check "a strip of docs/FORMAT.md, $verdict" "$bytes" "$verdict"
+done <"$work/rules"
+
+# ---- ./strip
 # there and back
 ./strip pack <examples/night.txt >"$work/strip" || fail './strip pack examples/night.txt'
 cmp -s "$work/strip" examples/night.strip || fail './strip pack writes another strip than examples/night.strip'
@@ -206,6 +381,62 @@ printf '\000' | ./strip list >"$work/out" 2>"$work/said" && fail './strip list o
 bad tail" ] || fail './strip list of a bad tail wrote something else'
 ./strip list <. >"$work/out" 2>"$work/said" && fail './strip list of a folder ended well'
 [ ! -s "$work/out" ] || fail './strip list of a folder wrote something'
+
+# no other command than check takes a file
+for word in list pack rows packrows fits; do
+    ./strip $word examples/night.strip >"$work/out" 2>"$work/said"
+    [ $? = 2 ] || fail "./strip $word with a file ended with another status than 2"
+    [ ! -s "$work/out" ] || fail "./strip $word with a file wrote something"
+    grep -q '^usage' "$work/said" || fail "./strip $word with a file prints no usage"
+done
+
+# ./strip check: of standard input, of a file, of several
+mkdir "$work/files" || exit 2
+cp examples/night.strip "$work/files/night"
+cp examples/night.strip "$work/files/%s*\\n"
+printf "$zeros\000" >"$work/files/a bad night"
+printf '\000' >"$work/files/-tail"
+head -c 65537 /dev/zero >"$work/files/long"
+: >"$work/files/empty"
+: >"$work/files/locked" && chmod 000 "$work/files/locked"
+root=$(pwd)
+judged() { # NAME STATUS LINES(printf) MESSAGES(printf) FILE ..: on $work/in, in the folder of the files
+    name=$1
+    wanted=$2
+    printf "$3" >"$work/want"
+    printf "$4" >"$work/told"
+    shift 4
+    (cd "$work/files" && "$root/strip" check "$@") <"$work/in" >"$work/out" 2>"$work/said"
+    status=$?
+    [ $status = "$wanted" ] || fail "./strip check ended with status $status: $name"
+    cmp -s "$work/out" "$work/want" || fail "./strip check wrote something else than it should: $name"
+    cmp -s "$work/said" "$work/told" || fail "./strip check told something else than it should: $name"
+    count=$((count + 1))
+}
+# this may prove and build first, and tell of it
+./strip check <examples/night.strip >"$work/out" 2>"$work/said" || fail './strip check of the night ended badly'
+cp examples/night.strip "$work/in"
+judged 'standard input' 0 'ok\n' ''
+judged 'a bad file, not the good standard input' 1 'record 1 rule 3\n' '' 'a bad night'
+printf "$zeros\000" >"$work/in"
+judged 'a bad standard input' 1 'record 1 rule 3\n' ''
+judged 'a file, not the bad standard input' 0 'ok\n' '' night
+judged 'an empty file' 0 'ok\n' '' empty
+judged 'a file that is too long' 1 'too long\n' '' long
+judged 'a leading dash' 1 'bad tail\n' '' -tail
+judged 'a missing file' 1 '' "strip: none: can't be read\n" none
+judged 'a folder' 1 '' "strip: .: can't be read\n" .
+judged 'good files' 0 'night: ok\nempty: ok\n%%s*\\n: ok\n' '' night empty '%s*\n'
+judged 'a file twice' 0 'night: ok\nnight: ok\n' '' night night
+judged 'a bad file before a good one' 1 'a bad night: record 1 rule 3\nnight: ok\n' '' 'a bad night' night
+judged 'a missing file before a good one' 1 'night: ok\n' "strip: a missing%%s\\\\n: can't be read\n" 'a missing%s\n' night
+judged 'files of all kinds' 1 'night: ok\na bad night: record 1 rule 3\n-tail: bad tail\nlong: too long\nempty: ok\n' \
+    "strip: none: can't be read\nstrip: .: can't be read\n" night 'a bad night' -tail none long . empty
+# root reads it all the same
+[ -r "$work/files/locked" ] || judged 'a file without the right to' 1 'night: ok\n' "strip: locked: can't be read\n" locked night
+./strip check <. >"$work/out" 2>"$work/said" && fail './strip check of a folder ended well'
+[ ! -s "$work/out" ] || fail './strip check of a folder wrote something'
+[ -s "$work/said" ] || fail './strip check of a folder told nothing'
 
 # ./strip over a kit that is another, and over one that does not prove crates that have changed since
 mkdir "$work/bin" && printf '#!/bin/sh\necho another\n' >"$work/bin/rt" && chmod +x "$work/bin/rt" || exit 2

@@ -1,5 +1,5 @@
 """Compares examples/strip.py with the proved programs: on every file of examples/, and on good, damaged, short and overlong strips, texts
-and rows; and strippack's dates with Python's decimal numbers.
+and rows; strippack's dates with Python's decimal numbers; and stripcheck with texts whose lines keep the rules for filing.
 
 The cases are the same in every run: their random numbers have a fixed seed. Run by tests/python.sh."""
 import collections
@@ -18,12 +18,15 @@ import strip as example
 HEADER = b"star,date,limit,mag,err,filter\n"
 WORKED = b"5,2460523.64817,0,-1.440,0.012,3\n"
 WIDTHS = (20, 38, 1, 16, 10, 4)
-PROGRAM = {"list": "striplist", "pack": "strippack", "rows": "striprows", "packrows": "rowspack"}
+PROGRAM = {"list": "striplist", "pack": "strippack", "rows": "striprows", "packrows": "rowspack", "check": "stripcheck"}
 FUNCTION = {"list": example.list_strip, "pack": example.pack_text, "rows": example.rows_of, "packrows": example.pack_rows}
+FUNCTION["check"] = example.check_strip
 # what a run has to have met at least this often, so that no kind of case gets lost unnoticed
 LEAST = {"list done": 40, "list bad tail": 100, "list too long": 3, "pack done": 20, "pack bad line": 300, "pack too long": 3}
 LEAST.update({"rows done": 40, "rows bad tail": 100, "rows too long": 3})
 LEAST.update({"packrows done": 40, "packrows bad row": 100, "packrows bad tail": 20, "packrows too long": 3})
+LEAST.update({"check ok": 100, "check bad tail": 100, "check too long": 4})
+LEAST.update({"check record N rule 1": 100, "check record N rule 2": 100, "check record N rule 3": 100})
 rng = random.Random(89)
 
 
@@ -71,6 +74,59 @@ def flipped(data, k):
     return data[: k // 8] + bytes([data[k // 8] ^ 128 >> k % 8]) + data[k // 8 + 1 :]
 
 
+# ---- strips for filing
+
+
+def filed(n):
+    """n records that keep the rules, often just so: equal dates, filter 9, error 0 with limit 1, error 1 with limit 0"""
+    records, date = [], rng.choice((0, 1, 246052364817, rng.randrange(1 << 38)))
+    for _ in range(n):
+        limit = rng.randrange(2)
+        error = rng.choice((1 - limit, 1, 1023, rng.randrange(1, 1024)))
+        filter = rng.choice((0, 9, rng.randrange(10)))
+        records.append([int(extreme(20), 2), date, limit, int(extreme(16), 2), error, filter])
+        date = min(date + rng.choice((0, 0, 1, rng.randrange(1 << 32))), (1 << 38) - 1)
+    return records
+
+
+def spoil(records, k, rule):
+    """makes record k, from 0, break a rule; the first date has none above it and stays"""
+    record = records[k]
+    if rule == 1 and k > 0 and records[k - 1][1] > 0:
+        record[1] = rng.choice((0, records[k - 1][1] - 1, rng.randrange(records[k - 1][1])))
+    if rule == 2:
+        record[5] = rng.randrange(10, 16)
+    if rule == 3:
+        record[2] = record[4] = 0
+
+
+def joined(records):
+    return strip_of("".join(format(number, "0%db" % width) for record in records for number, width in zip(record, WIDTHS)))
+
+
+def strips_for_filing():
+    """strips that keep the rules, and with one to three faults, at the first record, the last or any; tails good and bad"""
+    for n in range(1, 61):
+        for faults in ((), (1,), (2,), (3,), (1, 2), (3, 1), (2, 3), (1, 2, 3)):
+            records = filed(n)
+            for rule in faults:
+                spoil(records, rng.choice((0, n - 1, rng.randrange(n))), rule)
+            name, strip = "%d records, spoiled by %s" % (n, faults), joined(records)
+            yield name, strip
+            if n % 4 == 0 or not faults:
+                yield name + ", and a zero byte", strip + b"\0"
+                yield name + ", a late bit changed", flipped(strip, 8 * len(strip) - 1 - rng.randrange(8))
+    for n in (10, 100, 1000, 5890):
+        records = filed(n)
+        yield "%d records" % n, joined(records)
+        for rule in (3, 2, 1):  # the last record breaks rule 3, then 2 and 3, then all
+            spoil(records, n - 1, rule)
+            yield "%d records, the last breaks rule %d" % (n, rule), joined(records)
+    for full in joined(filed(5890)), joined(records):
+        yield "5,890 records and zeros up to 65,536 bytes", full.ljust(65536, b"\0")
+        yield "5,890 records and zeros up to 65,537 bytes", full.ljust(65537, b"\0")
+
+
 # ---- texts
 
 
@@ -79,14 +135,20 @@ def spelled(units, places):
     return ("-" if units < 0 else "") + digits[:-places] + "." + digits[-places:]
 
 
-def good_line():
-    """a line of the grammar, its numbers often at their edges and its date with up to seven decimals more than five"""
-    star, date, limit, magnitude, error, filter = (int(extreme(width), 2) for width in WIDTHS)
-    more = "".join(rng.choice("0123456789") for _ in range(rng.randrange(8)))
-    if date == (1 << 38) - 1 and more[:1] >= "5":
-        more = "4" + more[1:]  # a half would take it past the largest date
+def line_of(record, more=""):
+    """a record's line, with more decimals of the date; its magnitude counts from the least one"""
+    star, date, limit, magnitude, error, filter = record
     words = (star, spelled(date, 5) + more, limit, spelled(magnitude - 32768, 3), spelled(error, 3), filter)
     return (",".join(map(str, words)) + "\n").encode()
+
+
+def good_line():
+    """a line of the grammar, its numbers often at their edges and its date with up to seven decimals more than five"""
+    record = [int(extreme(width), 2) for width in WIDTHS]
+    more = "".join(rng.choice("0123456789") for _ in range(rng.randrange(8)))
+    if record[1] == (1 << 38) - 1 and more[:1] >= "5":
+        more = "4" + more[1:]  # a half would take it past the largest date
+    return line_of(record, more)
 
 
 def long_dates(n):
@@ -199,7 +261,9 @@ def same(job, name, data, ours, theirs):
 
 def kind(job, out, good):
     if good:
-        return job + " done"
+        return job + (" ok" if job == "check" else " done")
+    if out.startswith(b"record "):
+        return "check record N rule " + out.split()[3].decode()
     return job + " " + next(word for word in ("bad tail", "bad line", "bad row", "too long") if word.encode() in out[-16:])
 
 
@@ -235,23 +299,37 @@ def by_decimal(words):
             fail("%s is packed as %d, by decimal it is %d" % (word, date, want))
 
 
+def by_text(packing, checking):
+    """stripcheck on what strippack makes of lines that keep the rules for filing: it has to say `ok`"""
+    cases = [[line_of(record) for record in filed(n)] for n in range(40)]
+    cases.append([b"0,%s,0,0.000,0.001,9\n" % date.encode() for date in sorted(DATES, key=decimal.Decimal)])
+    for lines in cases:
+        strip = subprocess.run(packing, input=HEADER + b"".join(lines), capture_output=True).stdout
+        out = subprocess.run(checking, input=strip, capture_output=True).stdout
+        if len(strip) != (89 * len(lines) + 7) // 8 or out != b"ok\n":
+            fail("%d lines that keep the rules are packed to %d bytes, of which stripcheck says %r" % (len(lines), len(strip), out))
+
+
 def main():
     os.chdir(ROOT)
     met = collections.Counter()
     cases = {"list": list(strips()), "pack": list(texts()), "rows": list(strips()), "packrows": list(rows())}
+    cases["check"] = list(strips()) + list(strips_for_filing())
     for name in sorted(os.listdir("examples")):
         with open(os.path.join("examples", name), "rb") as file:
             data = file.read()
         for job in cases:
             cases[job].append((name, data))
+    words = {}
     for job, program in PROGRAM.items():
-        words = subprocess.run(["tests/program", "--words", program], stdout=subprocess.PIPE, text=True)
-        if words.returncode != 0:
+        run = subprocess.run(["tests/program", "--words", program], stdout=subprocess.PIPE, text=True)
+        if run.returncode != 0:
             fail("%s can't be run" % program)
+        words[job] = run.stdout.splitlines()
         for name, data in cases[job]:
-            by_function(job, name, data, words.stdout.splitlines(), met)
-        if job == "pack":
-            by_decimal(words.stdout.splitlines())
+            by_function(job, name, data, words[job], met)
+    by_decimal(words["pack"])
+    by_text(words["pack"], words["check"])
     for job, name, data in (
         ("list", "the night", open("examples/night.strip", "rb").read()),
         ("pack", "the night", open("examples/night.txt", "rb").read()),
@@ -263,6 +341,10 @@ def main():
         ("rows", "a lone zero byte", b"\0"),
         ("packrows", "a cut row", b"\0"),
         ("packrows", "rows of zeros", bytes(36)),
+        ("check", "the night", open("examples/night.strip", "rb").read()),
+        ("check", "a record of zeros", bytes(12)),
+        ("check", "a lone zero byte", b"\0"),
+        ("check", "65,537 bytes", bytes(65537)),
     ):
         by_command(job, name, data)
     for what, least in LEAST.items():
