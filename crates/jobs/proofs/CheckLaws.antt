@@ -1,13 +1,12 @@
 -- Laws of the check job: what its answer is, and that the line for a verdict is the job's.
-use Prim.Native.Nat.{ℕ, _+_, _*_, _<_, _≤_}
+use Prim.Native.Nat.{ℕ, _+_, _<_, _≤_}
 use mathlib.Core.Path.{_≡_, refl, sym, ap, _∙_}
-use mathlib.Core.Bool.{Bool, true, false, cond}
+use mathlib.Core.Bool.{true, false}
 use mathlib.Core.List.{List, [], _∷_, _++_}
 use lib.ListN.{length, length-append}
-use lib.Dec.{ltb, leb}
+use lib.Dec.{ltb}
 use native.Mathlib.Omega.{arith}
 use borrow.Author.Tests.{lt-ltb, le-ltb, ltb-true, ltb-false}
-use Rattle.bits.specs.Refusals.{longest}
 use Rattle.bits.proofs.TestLaws.{by-test}
 use Rattle.print.specs.Print.{places, wholeOf}
 use Rattle.print.proofs.DigitLaws.{places-few}

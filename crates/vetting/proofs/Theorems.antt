@@ -5,10 +5,9 @@ use mathlib.Core.Logic.{_↔_}
 use mathlib.Core.Bool.{Bool, true, false, cond, false≢true}
 use mathlib.Core.List.{List, [], _∷_}
 use native.Mathlib.Omega.{arith}
-use native.Mathlib.Numerals.{unary-clauses}
-use lib.Dec.{eqb, ltb}
+use lib.Dec.{eqb}
 use lib.ListN.{length, getD}
-use borrow.Author.Tests.{ltb-true, ltb-false, lt-ltb, le-ltb, eqb-true, eqb-false}
+use borrow.Author.Tests.{lt-ltb, le-ltb, eqb-true, eqb-false}
 use Rattle.bits.specs.Refusals.{longest, done, tooLong, ifDone}
 use Rattle.bits.proofs.TestLaws.{by-test}
 use Rattle.bits.proofs.RefusalLaws.{if-refused, if-done}
@@ -19,7 +18,7 @@ use Rattle.strip.proofs.Theorems.{strip-there-and-back}
 use Rattle.vetting.specs.declared.Verdict.{Verdict}
 use Rattle.vetting.specs.declared.Verdict.the-variants.{Fine, Broken, BadTail, Refused}
 use Rattle.vetting.specs.Rules.{Keeps, AllKeep, AtFault}
-use Rattle.vetting.specs.Verdicts.{ruleBroken, verdictFrom, verdictOn, verdictOf, Told, told}
+use Rattle.vetting.specs.Verdicts.{ruleBroken, verdictFrom, verdictOn, verdictOf, told}
 use Rattle.vetting.proofs.RuleLaws.{same, kept-all, all-kept, rule-first, rule-unique, dateAbove, to-keeps, from-keeps}
 
 -- ---- what a verdict was found by

@@ -1,6 +1,6 @@
 -- Laws of verdicts on records one behind the other.
 use Prim.Native.Nat.{ℕ, suc, _+_, _-_, _/_, _%_, _^_, _<_, _≤_}
-use mathlib.Core.Path.{_≡_, refl, sym, ap, _∙_}
+use mathlib.Core.Path.{_≡_, refl, ap, _∙_}
 use mathlib.Core.Bool.{Bool, cond}
 use mathlib.Core.List.{List}
 use native.Mathlib.Omega.{arith}
@@ -12,7 +12,6 @@ use Rattle.record.specs.Record.{recordBits}
 use Rattle.strip.specs.Bits.{recordAt}
 use Rattle.strip.specs.Strip.{recordsFrom}
 use Rattle.strip.proofs.BitsLaws.{record-in}
-use Rattle.vetting.specs.declared.Verdict.{Verdict}
 use Rattle.vetting.specs.declared.Verdict.the-variants.{Fine, Broken, BadTail}
 use Rattle.vetting.specs.Verdicts.{ruleBroken, verdictFrom}
 

@@ -1,9 +1,9 @@
 -- `say_fault` meets its contract: a number has at most ten digits, and the pieces stand behind each other (`numbered-put`,
 -- `copied-behind`). Assumes nothing.
-use Prim.Native.Nat.{ℕ, _+_, _≤_}
+use Prim.Native.Nat.{ℕ, _≤_}
 use mathlib.Core.Path.{_≡_, refl, sym, ap, _∙_}
 use mathlib.Core.List.{List, [], _∷_, _++_}
-use lib.ListN.{length, take}
+use lib.ListN.{take}
 use lib.Seq.{length-take-le}
 use native.Mathlib.Omega.{arith}
 use Rattle.print.specs.Print.{wholeOf}

@@ -1,6 +1,6 @@
 -- `rule_broken` meets its contract: each test is a row of the rules. Assumes nothing.
 use mathlib.Core.Path.{sym}
-use mathlib.Core.Bool.{and-true, and-false}
+use mathlib.Core.Bool.{and-false}
 use borrow.Author.Tests.{lt-ltb, le-ltb, eq-eqb, ne-eqb}
 use Rattle.bits.specs.Refusals.{orElse, firstRefusal}
 use Rattle.vetting.specs.Verdicts.{ruleBroken}
