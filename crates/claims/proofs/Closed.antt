@@ -51,7 +51,7 @@ use Rattle.plan.specs.Run.{runOf, runOut}
 use Rattle.plan.proofs.Theorems as P
 use Rattle.line.specs.declared.LineRead.{LineRead}
 use Rattle.line.specs.Grammar.{Line}
-use Rattle.line.proofs.Theorems.{accepted, acceptable, refusable, nearest-date, five-exact, sixth-decides, date-bound, dates-in-order}
+use Rattle.line.proofs.Theorems.{accepted, acceptable, refusable, nearest-date, five-exact, sixth-decides, date-bound}
 use Rattle.listing.specs.Listing.{writeLine, writeOut}
 use Rattle.listing.proofs.Theorems.{round-trip, five-decimals, line-room}
 use Rattle.strip.specs.declared.StripRead.{StripRead}
@@ -73,7 +73,7 @@ use Rattle.text.proofs.BadLineLaws.{bad-line-exactly, bad-or-good}
 use Rattle.text.proofs.Theorems.{good-text, text-packs, text-again, packed-back}
 use Rattle.jobs.specs.Answers.{answeredOf, answeredOut}
 use Rattle.jobs.proofs.ApartLaws.{too-long-apart, bad-tail-apart, bad-line-apart, bad-row-apart, rows-too-long-apart, rows-bad-tail-apart}
-use Rattle.jobs.proofs.Theorems.{list-is, pack-is, list-room, pack-room, few-back, many-lost, rows-is, pack-rows-is, rows-room, pack-rows-room, rows-back, rows-lost, check-is, check-room, packed-fine, packed-ok}
+use Rattle.jobs.proofs.Theorems.{list-is, pack-is, list-room, pack-room, few-back, many-lost, rows-is, pack-rows-is, rows-room, pack-rows-room, rows-back, rows-lost, check-is, check-room, packed-fine, lines-fine, packed-ok}
 use Rattle.host.specs.Host.{hostValue}
 use Rattle.host.proofs.HostLaws.{not-refused, done-within}
 use Rattle.claims.proofs.ReachedLaws.{writer-kept, cursor-owned}
@@ -447,8 +447,8 @@ verdicts-told = told-exactly
 pub packed-accepted : C.PackedAccepted
 packed-accepted = packed-fine
 
-pub dates-ordered : C.DatesInOrder
-dates-ordered s t r q l m le = dates-in-order l m le
+pub lines-accepted : C.LinesAccepted
+lines-accepted = lines-fine
 
 -- ---- programs
 

@@ -48,7 +48,7 @@ use Rattle.plan.specs.Run.{patternOf, fieldsOf, runOf, runOut}
 use Rattle.plan.specs.FieldReads.{readFields}
 use Rattle.digits.specs.Digits.{comma, point, zeroDigit, Digits, valueOf}
 use Rattle.line.specs.Date.{unitsOf, Nearest}
-use Rattle.line.specs.Grammar.{Line}
+use Rattle.line.specs.Grammar.{unrounded, Line}
 use Rattle.line.specs.Reading.{lineRead, readLine}
 use Rattle.listing.specs.Listing.{partsOf, lineOf, writeLine, writeOut}
 use Rattle.strip.specs.Bits.{bitsOf as recordBitsOf, recordAt}
@@ -609,13 +609,11 @@ PackedAccepted =
     (t out : List ℕ) (rs : List Record) → GoodText t rs → AllKeep rs → X.packOf t (length out) .refusal ≡ done
     → verdictOf (take (X.packOf t (length out) .length) (X.packOut t out)) ≡ Fine
 
--- and rounding breaks no rule: of two lines the one whose date is spelled as no later names no later date
-abbrev pub DatesInOrder : Type 0
-DatesInOrder =
-    (s t : List ℕ) (r q : Record) (l : Line s r) (m : Line t q) →
-    let a = l .parts .dayDecimals in
-    let b = m .parts .dayDecimals in
-    valueOf (l .parts .days ++ a) * 10 ^ length b ≤ valueOf (m .parts .days ++ b) * 10 ^ length a → r .date ≤ q .date
+-- and so is one whose lines keep every rule as they are spelled, their dates to the last decimal: rounding breaks none
+abbrev pub LinesAccepted : Type 0
+LinesAccepted =
+    (t out : List ℕ) (rs : List Record) (g : GoodText t rs) → AllKeep (map unrounded (g .lines .parts)) → X.packOf t (length out) .refusal ≡ done
+    → verdictOf (take (X.packOf t (length out) .length) (X.packOut t out)) ≡ Fine
 
 -- ---- programs: all that they write is `listAnswer`, `packAnswer`, `rowsAnswer`, `packRowsAnswer` or `checkAnswer` of all that they read
 

@@ -1,9 +1,9 @@
 -- Laws of the check job: what its answer is, and that the line for a verdict is the job's.
-use Prim.Native.Nat.{ℕ, _+_, _<_, _≤_}
+use Prim.Native.Nat.{ℕ, zero, suc, _<_, _≤_}
 use mathlib.Core.Path.{_≡_, refl, sym, ap, _∙_}
 use mathlib.Core.Bool.{true, false}
-use mathlib.Core.List.{List, [], _∷_, _++_}
-use lib.ListN.{length, length-append}
+use mathlib.Core.List.{List, [], _∷_, _++_, map}
+use lib.ListN.{length, getD, length-append, length-map}
 use lib.Dec.{ltb}
 use native.Mathlib.Omega.{arith}
 use borrow.Author.Tests.{lt-ltb, le-ltb, ltb-true, ltb-false}
@@ -12,15 +12,21 @@ use Rattle.print.specs.Print.{places, wholeOf}
 use Rattle.print.proofs.DigitLaws.{places-few}
 use Rattle.print.proofs.StoreLaws.{part-size}
 use Rattle.record.specs.declared.Record.{Record}
+use Rattle.record.specs.Record.{noRecord}
+use Rattle.line.specs.Grammar.{Parts, meant, unrounded, Good}
+use Rattle.line.proofs.Theorems.{dates-in-order}
 use Rattle.strip.specs.Strip.{countOf, recordsOf, tailGood}
 use Rattle.strip.proofs.PackedLaws.{records-count}
 use Rattle.vetting.specs.declared.Verdict.{Verdict}
 use Rattle.vetting.specs.declared.Verdict.the-variants.{Fine, Broken, BadTail, Refused}
 use Rattle.vetting.specs.Rules.{Keeps, AllKeep, AtFault}
 use Rattle.vetting.specs.Verdicts.{verdictOf}
+use Rattle.vetting.proofs.RuleLaws.{dateAbove, to-keeps, from-keeps}
 use Rattle.vetting.proofs.Theorems.{accepted-exactly, bad-tail-exactly, fault-exactly}
 use Rattle.text.specs.Text.{badTail}
+use Rattle.text.specs.Grammar.{allMeant, AllGood, and}
 use Rattle.text.proofs.HeaderLaws.{length-bad-tail}
+use Rattle.text.proofs.BadLineLaws.{meant-count}
 use Rattle.jobs.specs.Jobs.{mostTaken, tooLongSaid, okSaid, faultSaid, verdictSaid, checkAnswer}
 use Rattle.jobs.proofs.MessageLaws.{recordBytes, ruleBytes, too-long-is, ok-is, fault-is, numbered-few}
 
@@ -80,3 +86,47 @@ module _ (s : List ℕ) where
         by (Broken n r) e = let (few, rule) = fault-small e in let a = ap length (check-short e) in let b = fault-few n r few rule in omega arith
         by BadTail e = let a = ap length (check-short e) in let b = length-bad-tail in omega arith
         by (Refused k) e = let a = ap length (check-short e ∙ too-long-is) in omega arith
+
+-- ---- lines
+
+-- line i: what it says unrounded, and its record
+at-line : (ps : List Parts) → AllGood ps → (i : ℕ) → i < length ps
+    → (p : Parts) × Good p × (getD (map unrounded ps) i noRecord ≡ unrounded p) × (getD (allMeant ps) i noRecord ≡ meant p)
+unfolding allMeant
+at-line [] good i few = absurd (omega arith)
+at-line (p ∷ ps) (and g good) zero few = (p, g, refl, refl)
+at-line (p ∷ ps) (and g good) (suc i) few = at-line ps good i (omega arith)
+
+-- dates of two of them
+in-order : {a b c d : Record} (p q : Parts) → Good p → Good q → a ≡ unrounded p → b ≡ unrounded q → c ≡ meant p → d ≡ meant q
+    → a .date ≤ b .date → c .date ≤ d .date
+in-order p q good-p good-q a b c d h =
+    let date : Record → ℕ = λ (r : Record). r .date in
+    let le = dates-in-order p q good-p good-q (omega (arith, ap date a, ap date b, h)) in
+    omega (arith, ap date c, ap date d, le)
+
+module _ (ps : List Parts) (good : AllGood ps) where
+  -- a date not before the one above it is so once both are rounded
+  date-kept : (i : ℕ) → i < length ps → dateAbove 0 (map unrounded ps) i ≤ getD (map unrounded ps) i noRecord .date
+      → dateAbove 0 (allMeant ps) i ≤ getD (allMeant ps) i noRecord .date
+  unfolding dateAbove
+  date-kept zero few h = omega arith
+  date-kept (suc i) few h =
+      let (p, good-p, said-p, named-p) = at-line ps good i (omega arith) in
+      let (q, good-q, said-q, named-q) = at-line ps good (suc i) few in
+      in-order p q good-p good-q said-p said-q named-p named-q h
+
+  -- lines-keep: lines that keep the rules as they are spelled name records that keep them
+  pub lines-keep : AllKeep (map unrounded ps) → AllKeep (allMeant ps)
+  lines-keep all zero r one few = absurd (omega arith)
+  lines-keep all (suc i) r one few =
+      let there : i < length ps = omega (arith, few, meant-count ps) in
+      let (date, filter, error) = from-keeps (map unrounded ps) i r (all (suc i) r one (omega (arith, there, length-map ps unrounded))) in
+      let (p, _, said, named) = at-line ps good i there in
+      let same : (f : Record → ℕ) → f (unrounded p) ≡ f (meant p) → f (getD (map unrounded ps) i noRecord) ≡ f (getD (allMeant ps) i noRecord) =
+      λ f e. ap f said ∙ e ∙ sym (ap f named) in
+      to-keeps (allMeant ps) i r (
+        λ e. date-kept i there (date e),
+        λ e. omega (arith, filter e, same (λ (x : Record). x .filter) refl),
+        λ e z. sym (same (λ (x : Record). x .limit) refl) ∙ error e (same (λ (x : Record). x .error) refl ∙ z),
+      )

@@ -2,7 +2,7 @@
 use Prim.Native.Nat.{ℕ, suc, _*_, _%_, _^_, _<_, _≤_}
 use mathlib.Core.Path.{_≡_, refl, sym, ap, _∙_, subst}
 use mathlib.Core.Bool.{true, false, _&&_}
-use mathlib.Core.List.{List, []}
+use mathlib.Core.List.{List, [], map}
 use lib.ListN.{length, take, getD}
 use lib.Dec.{ltb}
 use native.Mathlib.Omega.{arith}
@@ -22,6 +22,7 @@ use Rattle.rows.specs.Row.{columnsAt, inRange, rowLength, rowBits}
 use Rattle.rows.specs.Rows.{rowsBytes, stripRows, rowCount, recordsOfRows}
 use Rattle.rows.proofs.AnswerLaws.{good-rows, good-length, whole-strip}
 use Rattle.rows.proofs.Theorems.{strip-rows-strip, bad-row-exactly, no-bad-row}
+use Rattle.line.specs.Grammar.{unrounded}
 use Rattle.text.specs.Text.{header, badTail, textOf, headed, Lines, bodyOf}
 use Rattle.text.specs.Grammar.{GoodText, FirstBad}
 use Rattle.text.specs.Answers.{packOf, packOut}
@@ -35,7 +36,7 @@ use Rattle.jobs.specs.Jobs.{mostTaken, tooLongSaid, badLineSaid, badRowS
 use Rattle.jobs.proofs.MessageLaws.{too-long-is}
 use Rattle.jobs.proofs.AnswerLaws.{list-long, list-short}
 use Rattle.jobs.proofs.PackLaws.{pack-long, pack-good, pack-said, pack-few}
-use Rattle.jobs.proofs.CheckLaws.{check-long, check-ok, check-fault, check-tail, check-few}
+use Rattle.jobs.proofs.CheckLaws.{check-long, check-ok, check-fault, check-tail, check-few, lines-keep}
 use Rattle.jobs.proofs.RowsLaws.{rows-long, rows-good, rows-bad, rows-few}
 use Rattle.jobs.proofs.RowsLaws.{pack-rows-long, pack-rows-bad, pack-rows-good, pack-rows-cut, pack-rows-few}
 
@@ -130,6 +131,13 @@ packed-fine t out rs g all z =
     let count : length (bodyOf t .records) ≡ length rs = ap (λ (l : Lines). length (l .records)) (good-body g) in
     let size = length-strip rs in
     ap verdictOf (packed-strip out g short short-out (omega arith)) ∙ strip-fine rs (good-fits g) all (omega arith)
+
+-- lines-fine: and one whose lines keep every rule as they are spelled
+pub lines-fine : (t out : List ℕ) (rs : List Record) (g : GoodText t rs) → AllKeep (map unrounded (g .lines .parts)) → packOf t (length out) .refusal ≡ done
+    → verdictOf (take (packOf t (length out) .length) (packOut t out)) ≡ Fine
+lines-fine t out rs g all =
+    let l = g .lines in
+    packed-fine t out rs g (subst AllKeep (sym (l .names)) (lines-keep (l .parts) (l .good) all))
 
 -- packed-ok: and strippack's strip of such a text is told to be ok
 pub packed-ok : (t : List ℕ) (rs : List Record) → GoodText t rs → AllKeep rs → length t ≤ 65536 → checkAnswer (packAnswer t) ≡ okSaid

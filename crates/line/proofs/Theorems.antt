@@ -1,12 +1,12 @@
 -- The theorems on lines: read_line accepts the lines of the grammar and nothing else, a line names one record, and its date is rounded.
 use Prim.Native.Nat.{ℕ, _+_, _-_, _*_, _^_, _≤_}
-use mathlib.Core.Path.{_≡_, refl, sym, ap, _∙_, subst}
+use mathlib.Core.Path.{_≡_, refl, sym, ap, ap₂, _∙_, subst}
 use mathlib.Core.Logic.{_↔_}
 use mathlib.Core.Bool.{true, false, cond, _&&_}
 use mathlib.Core.List.{List, [], _∷_, _++_}
 use lib.ListN.{length, getD, take}
 use lib.Dec.{leb, ltb}
-use native.Mathlib.Nat.{mul-left-comm}
+use native.Mathlib.Nat.{mul-comm, mul-mul-mul-comm, mul-le-mul-right}
 use native.Mathlib.Omega.{arith}
 use lib.Pow.{pow-add}
 use borrow.Author.Tests.{le-ltb}
@@ -17,8 +17,8 @@ use Rattle.record.specs.declared.Record.{Record}
 use Rattle.record.specs.Record.{dateBits, noRecord}
 use Rattle.digits.specs.Digits.{comma, point, zeroDigit, Digits, valueOf}
 use Rattle.digits.proofs.RunLaws.{value-append, split-same}
-use Rattle.line.specs.Date.{day, unitsOf, Nearest}
-use Rattle.line.specs.Grammar.{spelled, meant, Line}
+use Rattle.line.specs.Date.{unitsOf, Nearest}
+use Rattle.line.specs.Grammar.{Parts, spelled, meant, unrounded, Good, Line}
 use Rattle.line.specs.Reading.{begins, firstOf, behind, isNil, lineRead, lineRefusal, readLine}
 use Rattle.line.proofs.DateLaws.{ten-some, units-nearest, units-five, nearest-order}
 use Rattle.line.proofs.SixthLaws.{units-sixth}
@@ -98,24 +98,36 @@ module _ {s : List ℕ} {r : Record} (l : Line s r) where
   pub sixth-decides : 6 ≤ length decimals → r .date ≡ valueOf (days ++ take 5 decimals) + cond (leb (zeroDigit + 5) (getD decimals 5 0)) 1 0
   sixth-decides more = by-rule ∙ units-sixth days decimals (l .good .dayDecimals .digits) more
 
--- dates-in-order: a date that is spelled as no more than another's names no more units
-pub dates-in-order : {s t : List ℕ} {r q : Record} (l : Line s r) (m : Line t q) →
-    let a = l .parts .dayDecimals in
-    let b = m .parts .dayDecimals in
-    valueOf (l .parts .days ++ a) * 10 ^ length b ≤ valueOf (m .parts .days ++ b) * 10 ^ length a → r .date ≤ q .date
-dates-in-order {s} {t} {r} {q} l m le =
-    let a = l .parts .dayDecimals in
-    let b = m .parts .dayDecimals in
-    let x = valueOf (l .parts .days ++ a) in
-    let y = valueOf (m .parts .days ++ b) in
-    let p = 10 ^ (length a - 5) in
-    let o = 10 ^ (length b - 5) in
-    let first : y * 10 ^ length a ≡ day * (y * p) = ap (λ (k : ℕ). y * k) (behind-fifth (length a) (l .good .dayDecimals .enough)) ∙ mul-left-comm y day p in
-    let second : x * 10 ^ length b ≡ day * (x * o) = ap (λ (k : ℕ). x * k) (behind-fifth (length b) (m .good .dayDecimals .enough)) ∙ mul-left-comm x day o in
-    nearest-order x p (r .date) y o (q .date) (ten-some (length a - 5)) (nearest-date l (r .date) .1 refl) (nearest-date m (q .date) .1 refl) (omega arith)
+-- dates-in-order: dates that are in order as they are spelled are in order once they are rounded
+pub dates-in-order : (p q : Parts) → Good p → Good q → unrounded p .date ≤ unrounded q .date → meant p .date ≤ meant q .date
+unfolding meant
+dates-in-order p q good-p good-q le =
+    let x = valueOf (p .days ++ p .dayDecimals) in
+    let y = valueOf (q .days ++ q .dayDecimals) in
+    let a = 10 ^ (length (p .dayDecimals) - 5) in
+    let b = 10 ^ (length (q .dayDecimals) - 5) in
+    nearest-order x a _ y b _ (ten-some (length (p .dayDecimals) - 5)) (nearest p good-p) (nearest q good-q)
+    (cross x y a b _ _ (to-twelve p good-p) (to-twelve q good-q) le)
   where
-    behind-fifth : (d : ℕ) → 5 ≤ d → 10 ^ d ≡ day * 10 ^ (d - 5)
-    behind-fifth d h = let e : d ≡ 5 + (d - 5) = omega arith in ap (λ (k : ℕ). 10 ^ k) e ∙ pow-add 10 5 (d - 5)
+    -- the decimals behind the fifth, and those that are left to twelve, are seven
+    to-twelve : (p : Parts) → Good p → 10 ^ (12 - length (p .dayDecimals)) * 10 ^ (length (p .dayDecimals) - 5) ≡ 10 ^ 7
+    to-twelve p good =
+        let d = length (p .dayDecimals) in
+        let e : 12 - d + (d - 5) ≡ 7 = omega (arith, good .dayDecimals .enough, good .dayDecimals .few) in
+        sym (pow-add 10 (12 - d) (d - 5)) ∙ ap (λ (k : ℕ). 10 ^ k) e
+
+    -- x of c is at most y of d: so it is of a and b, where c a and d b are the same
+    cross : (x y a b c d : ℕ) → c * a ≡ 10 ^ 7 → d * b ≡ 10 ^ 7 → x * c ≤ y * d → x * b ≤ y * a
+    cross x y a b c d e f le =
+        let first : 10 ^ 7 * (x * b) ≡ x * c * (a * b) =
+        ap (λ (k : ℕ). k * (x * b)) (sym e) ∙ mul-mul-mul-comm c a x b ∙ ap (λ (k : ℕ). k * (a * b)) (mul-comm c x) in
+        let second : 10 ^ 7 * (y * a) ≡ y * d * (a * b) =
+        ap (λ (k : ℕ). k * (y * a)) (sym f) ∙ mul-mul-mul-comm d b y a ∙ ap₂ (λ (j k : ℕ). j * k) (mul-comm d y) (mul-comm b a) in
+        let scaled = mul-le-mul-right (a * b) le in
+        omega arith
+
+    nearest : (p : Parts) → Good p → Nearest (valueOf (p .days ++ p .dayDecimals)) (10 ^ (length (p .dayDecimals) - 5)) (meant p .date)
+    nearest p good = nearest-date (record { parts = p; good = good; text = refl; names = refl }) (meant p .date) .1 refl
 
 -- date-bound: a text whose second number is a date that comes to 2^38 units or more is refused as a bad line, whatever else is in it
 pub date-bound : (star days decimals rest : List ℕ) → Digits star → Digits days → Digits decimals →

@@ -1,5 +1,5 @@
 -- The grammar of a line: its parts as they are spelled, the text that they make, the record that they name, and which are good.
-use Prim.Native.Nat.{ℕ, _+_, _*_, _≤_}
+use Prim.Native.Nat.{ℕ, _+_, _-_, _*_, _^_, _≤_}
 use mathlib.Core.Path.{_≡_}
 use mathlib.Core.Bool.{Bool, true, cond}
 use mathlib.Core.List.{List, [], _∷_, _++_}
@@ -56,6 +56,18 @@ meant p =
       magnitude = signedBy (p .negative) (magnitudeOf p);
       error = thousandths (valueOf (p .error)) (valueOf (p .errorDecimals));
       filter = valueOf (p .filter);
+    }
+
+-- what the parts say with the date as it is spelled, to the last decimal, in units of 10^-12 day
+abbrev pub unrounded : Parts → Record
+unrounded p =
+    record {
+      star = meant p .star;
+      date = valueOf (p .days ++ p .dayDecimals) * 10 ^ (12 - length (p .dayDecimals));
+      limit = meant p .limit;
+      magnitude = meant p .magnitude;
+      error = meant p .error;
+      filter = meant p .filter;
     }
 
 -- good parts: whole parts have no needless leading zero, the date has five to twelve decimals, magnitude and error have three, a minus is

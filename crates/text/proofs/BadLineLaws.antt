@@ -84,7 +84,7 @@ stuck (suc n) s h e = by (isNil s) (begins s) refl refl (stuck n (behind s)) e
     by false true p q others k = let l = behind-shorter s q in stuck-later s _ q (others (omega arith) k)
     by false false p q others k = stuck-here s p q
 
-meant-count : (ps : List Parts) → length (allMeant ps) ≡ length ps
+pub meant-count : (ps : List Parts) → length (allMeant ps) ≡ length ps
 unfolding allMeant
 meant-count [] = refl
 meant-count (p ∷ ps) = ap suc (meant-count ps)

@@ -37,7 +37,7 @@ data Found (n above : ℕ) (rs : List Record) (good : Bool) : Verdict → Type 0
 found : (n above : ℕ) (rs : List Record) (good : Bool) → Found n above rs good (verdictFrom n above rs good)
 unfolding verdictFrom dateAbove
 found n above [] good = none (λ i h. absurd (omega arith))
-found n above (r ∷ rs) good = by-test (eqb (ruleBroken above r) done) (first (found (suc n) (r .date) rs good)) later
+found n above (r ∷ rs) good = by-test (eqb (ruleBroken above r) done) (kept (found (suc n) (r .date) rs good)) at-fault
   where
     -- the dates above the records behind the first
     shift : (i : ℕ) → breaks (r .date) rs i ≡ breaks above (r ∷ rs) (suc i)
@@ -49,20 +49,22 @@ found n above (r ∷ rs) good = by-test (eqb (ruleBroken above r) done) (first (
     from-first z k h zero l = z
     from-first z k h (suc j) l = sym (shift j) ∙ h j (omega arith)
 
+    -- what those behind the first are found by
     behind : ruleBroken above r ≡ done → {v : Verdict} → Found (suc n) (r .date) rs good v → Found n above (r ∷ rs) good v
     behind z (none h) = none (from-first z (length rs) h)
     behind z (at i l b h) =
         let e : n + suc i ≡ suc n + i = omega arith in
         subst (Found n above (r ∷ rs) good) (λ k. Broken (e k) (sym (shift i) k)) (at (suc i) (omega arith) (λ y. b (shift i ∙ y)) (from-first z i h))
 
-    first : Found (suc n) (r .date) rs good (verdictFrom (suc n) (r .date) rs good) → eqb (ruleBroken above r) done ≡ true
+    -- where the first keeps the rules those behind it decide, else it does
+    kept : Found (suc n) (r .date) rs good (verdictFrom (suc n) (r .date) rs good) → eqb (ruleBroken above r) done ≡ true
         → Found n above (r ∷ rs) good (ifDone (ruleBroken above r) (verdictFrom (suc n) (r .date) rs good) (Broken n (ruleBroken above r)))
-    first f t =
+    kept f t =
         let z = eqb-true _ _ t in
         subst (Found n above (r ∷ rs) good) (if-done refl _ _ z) (behind z f)
 
-    later : eqb (ruleBroken above r) done ≡ false → Found n above (r ∷ rs) good (ifDone (ruleBroken above r) (verdictFrom (suc n) (r .date) rs good) (Broken n (ruleBroken above r)))
-    later t =
+    at-fault : eqb (ruleBroken above r) done ≡ false → Found n above (r ∷ rs) good (ifDone (ruleBroken above r) (verdictFrom (suc n) (r .date) rs good) (Broken n (ruleBroken above r)))
+    at-fault t =
         let h = eqb-false _ _ t in
         let e : n + 0 ≡ n = omega arith in
         subst (Found n above (r ∷ rs) good) (ap (λ (k : ℕ). Broken k (ruleBroken above r)) e ∙ if-refused refl _ _ h) (at 0 (omega arith) h (λ j l. absurd (omega arith)))
