@@ -20,9 +20,9 @@ use Rattle.strip.proofs.PackedLaws.{records-count}
 use Rattle.vetting.specs.declared.Verdict.{Verdict}
 use Rattle.vetting.specs.declared.Verdict.the-variants.{Fine, Broken, BadTail, Refused}
 use Rattle.vetting.specs.Rules.{Keeps, AllKeep, AtFault}
-use Rattle.vetting.specs.Verdicts.{verdictOf}
+use Rattle.vetting.specs.Verdicts.{verdictOn, verdictOf}
 use Rattle.vetting.proofs.RuleLaws.{dateAbove, to-keeps, from-keeps}
-use Rattle.vetting.proofs.Theorems.{accepted-exactly, bad-tail-exactly, fault-exactly}
+use Rattle.vetting.proofs.Theorems.{verdict-is, accepted-exactly, bad-tail-exactly, fault-exactly}
 use Rattle.text.specs.Text.{badTail}
 use Rattle.text.specs.Grammar.{allMeant, AllGood, and}
 use Rattle.text.proofs.HeaderLaws.{length-bad-tail}
@@ -43,6 +43,10 @@ module _ (s : List ℕ) where
   check-long h = rw (lt-ltb mostTaken (length s) h)
 
   module _ (h : length s ≤ mostTaken) where
+    -- the verdict on its records and its tail is the strip's
+    pub vetted : {v : Verdict} → v ≡ verdictOn (recordsOf s) (tailGood s) → v ≡ verdictOf s
+    vetted e = e ∙ sym (verdict-is s (omega arith))
+
     pub check-short : {v : Verdict} → v ≡ verdictOf s → checkAnswer s ≡ verdictSaid v
     unfolding checkAnswer
     check-short e = rw (le-ltb mostTaken (length s) h) (ap verdictSaid (sym e))

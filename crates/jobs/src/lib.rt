@@ -115,8 +115,8 @@ pub fn check_answer(input: &[u8], out: &mut [u8]) -> Answered
     if MOST_TAKEN < input.len() {
         return inner::say(b"too long\n", out);
     }
-    let verdict = vetting::vet_strip(input);
-    match verdict {
+    let found = vetting::inner::verdict(input);
+    match found {
         Verdict::Fine => inner::say(b"ok\n", out),
         Verdict::Broken(number, rule) => inner::say_fault(number as u32, rule, out),
         Verdict::BadTail => inner::say(b"bad tail\n", out),

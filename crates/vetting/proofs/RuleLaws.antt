@@ -14,7 +14,7 @@ use Rattle.bits.proofs.RefusalLaws.{passed, all-pass, test-failed, test-true, a
 use Rattle.record.specs.declared.Record.{Record}
 use Rattle.record.specs.Record.{noRecord}
 use Rattle.vetting.specs.Rules.{Keeps}
-use Rattle.vetting.specs.Verdicts.{broken, ruleBroken}
+use Rattle.vetting.specs.Verdicts.{faults, ruleBroken}
 
 -- a record keeps rule q below one of a date
 abbrev pub Kept : ℕ → Record → ℕ → Type 0
@@ -46,7 +46,7 @@ module _ (above : ℕ) (r : Record) where
   pub kept-all : ruleBroken above r ≡ done → (q : ℕ) → Kept above r q
   unfolding ruleBroken
   kept-all z q =
-      let (date, (filter, error)) = passed (broken above r) z in
+      let (date, (filter, error)) = passed (faults above r) z in
       (λ _. at-most _ _ _ date, λ _. at-most _ _ _ filter, λ _. alone-failed (r .error) (r .limit) (test-failed _ _ error))
 
   -- and the other way
@@ -56,14 +56,14 @@ module _ (above : ℕ) (r : Record) where
       let date = h 1 .0 refl in
       let filter = h 2 .1 refl in
       let error = h 3 .2 refl in
-      all-pass (broken above r) (rw (le-ltb _ _ date) refl, (rw (le-ltb _ _ filter) refl, rw (failed-alone (r .error) (r .limit) error) refl))
+      all-pass (faults above r) (rw (le-ltb _ _ date) refl, (rw (le-ltb _ _ filter) refl, rw (failed-alone (r .error) (r .limit) error) refl))
 
   -- where one is broken, it is the first: those before it are kept
   pub rule-first : (ruleBroken above r ≡ done → ⊥) → ((q : ℕ) → q < ruleBroken above r → Kept above r q) × (Kept above r (ruleBroken above r) → ⊥)
   unfolding ruleBroken
-  rule-first h = by (ruleBroken above r) (refused-by (broken above r) h)
+  rule-first h = by (ruleBroken above r) (refused-by (faults above r) h)
     where
-      by : (k : ℕ) → Refused (broken above r) k → ((q : ℕ) → q < k → Kept above r q) × (Kept above r k → ⊥)
+      by : (k : ℕ) → Refused (faults above r) k → ((q : ℕ) → q < k → Kept above r q) × (Kept above r k → ⊥)
       by k (here t) =
           let e = test-true (ltb (r .date) above) 0 t in
           rw e (λ q h. (λ f. absurd (omega arith), λ f. absurd (omega arith), λ f. absurd (omega arith)), λ h. let a = h .0 refl in let b = ltb-true (r .date) above e in omega arith)

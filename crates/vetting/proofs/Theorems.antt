@@ -185,7 +185,8 @@ module _ (s : List ℕ) where
   verdict-long h = rw (lt-ltb longest (length s) h) refl
 
   module _ (short : length s ≤ longest) where
-    verdict-is : verdictOf s ≡ verdictOn (recordsOf s) (tailGood s)
+    -- verdict-is: within the limit it is that on its records and its tail
+    pub verdict-is : verdictOf s ≡ verdictOn (recordsOf s) (tailGood s)
     unfolding verdictOf
     verdict-is = rw (le-ltb longest (length s) short) refl
 

@@ -10,9 +10,9 @@ use Rattle.strip.specs.Strip.{recordsOf, tailGood}
 use Rattle.vetting.specs.declared.Verdict.{Verdict}
 use Rattle.vetting.specs.declared.Verdict.the-variants.{Fine, Broken, BadTail, Refused}
 
--- the rules as a table: the number of each that a record breaks, below one of a date
-abbrev pub broken : ℕ → Record → List ℕ
-broken above r =
+-- a record's faults as a table: the number of each rule that it breaks, below one of a date
+abbrev pub faults : ℕ → Record → List ℕ
+faults above r =
     ltb (r .date) above ⟶ 1
     ∷ ltb 9 (r .filter) ⟶ 2
     ∷ (eqb (r .error) 0 && not (eqb (r .limit) 1)) ⟶ 3
@@ -20,7 +20,7 @@ broken above r =
 
 -- the first of them; 0 where it keeps all
 unfoldable pub ruleBroken : ℕ → Record → ℕ
-ruleBroken above r = firstRefusal (broken above r)
+ruleBroken above r = firstRefusal (faults above r)
 
 -- the verdict on records of which the first is number n, below one of a date, where the tail is good or bad
 unfoldable pub verdictFrom : ℕ → ℕ → List Record → Bool → Verdict

@@ -5,7 +5,7 @@ use native.Mathlib.Omega.{arith}
 use Rattle.text.proofs.HeaderLaws.{bad-tail-is}
 use Rattle.jobs.specs.Jobs.{verdictSaid}
 use Rattle.jobs.proofs.MessageLaws.{too-long-is, ok-is}
-use Rattle.jobs.proofs.CheckLaws.{check-long, check-short, fault-small}
+use Rattle.jobs.proofs.CheckLaws.{check-long, vetted, check-short, fault-small}
 use borrow.Author.Needs.{needs}
 use Rattle.jobs.proofs.check_answer.Statement.{statement}
 use Rattle.jobs.proofs.check_answer.Tie as tie
@@ -26,8 +26,8 @@ returns c =
     let e = check-long (a .input .now) (c .before .before .before .before .before .if1 .taken) ∙ too-long-is in
     rw e (said .ensures .0, said .ensures .1)
 
-vet-strip-requires : tie.Need-vet-strip-requires
-vet-strip-requires c κs = search needs
+verdict-requires : tie.Need-verdict-requires
+verdict-requires c κs = search needs
 
 enum-told : tie.Need-enum-told
 enum-told c = search needs
@@ -38,14 +38,14 @@ slice-aggregate-say-2 c = search needs
 say-requires-2 : tie.Need-say-requires-2
 say-requires-2 c κs = search needs
 
-enum-known-verdict : tie.Need-enum-known-verdict
-enum-known-verdict c = search needs
+enum-known-found : tie.Need-enum-known-found
+enum-known-found c = search needs
 
 cast-say-fault : tie.Need-cast-say-fault
 cast-say-fault c =
     let judged = c .before .before .before in
     let short = judged .before .if1 .left in
-    let few = fault-small _ short (sym (c .before .verdict .given .1) ∙ judged .vet-strip .ensures) in
+    let few = fault-small _ short (sym (c .before .found .given .1) ∙ vetted _ short (judged .verdict .ensures)) in
     omega arith
 
 say-fault-requires : tie.Need-say-fault-requires
@@ -77,7 +77,8 @@ unfolding verdictSaid
 returns-2 c =
     let said = c .before .before .say2 in
     let judged = c .before .before .before .before .before .before .before in
-    let e = check-short _ (judged .before .if1 .left) (sym (c .before .before .before .before .before .enum-told .given .1) ∙ judged .vet-strip .ensures) ∙ ok-is in
+    let short = judged .before .if1 .left in
+    let e = check-short _ short (sym (c .before .before .before .before .before .enum-told .given .1) ∙ vetted _ short (judged .verdict .ensures)) ∙ ok-is in
     rw e (said .ensures .0, said .ensures .1)
 
 same-length-3 : tie.Need-same-length-3
@@ -88,7 +89,8 @@ unfolding verdictSaid
 returns-3 c =
     let said = c .before .before .say-fault in
     let judged = c .before .before .before .before .before .before .before in
-    let e = check-short _ (judged .before .if1 .left) (sym (c .before .before .before .before .before .verdict .given .1) ∙ judged .vet-strip .ensures) in
+    let short = judged .before .if1 .left in
+    let e = check-short _ short (sym (c .before .before .before .before .before .found .given .1) ∙ vetted _ short (judged .verdict .ensures)) in
     rw e (said .ensures .0, said .ensures .1)
 
 same-length-4 : tie.Need-same-length-4
@@ -99,7 +101,8 @@ unfolding verdictSaid
 returns-4 c =
     let said = c .before .before .say3 in
     let judged = c .before .before .before .before .before .before .before in
-    let e = check-short _ (judged .before .if1 .left) (sym (c .before .before .before .before .before .enum-told2 .given .1) ∙ judged .vet-strip .ensures) ∙ bad-tail-is in
+    let short = judged .before .if1 .left in
+    let e = check-short _ short (sym (c .before .before .before .before .before .enum-told2 .given .1) ∙ vetted _ short (judged .verdict .ensures)) ∙ bad-tail-is in
     rw e (said .ensures .0, said .ensures .1)
 
 same-length-5 : tie.Need-same-length-5
@@ -110,7 +113,8 @@ unfolding verdictSaid
 returns-5 c =
     let said = c .before .before .say4 in
     let judged = c .before .before .before .before .before .before .before in
-    let e = check-short _ (judged .before .if1 .left) (sym (c .before .before .before .before .before .enum-told3 .given .1) ∙ judged .vet-strip .ensures) ∙ too-long-is in
+    let short = judged .before .if1 .left in
+    let e = check-short _ short (sym (c .before .before .before .before .before .enum-told3 .given .1) ∙ vetted _ short (judged .verdict .ensures)) ∙ too-long-is in
     rw e (said .ensures .0, said .ensures .1)
 
 pub check-answer-spec : {M : Type 1} → statement M
@@ -121,11 +125,11 @@ check-answer-spec =
     say-requires
     same-length
     returns
-    vet-strip-requires
+    verdict-requires
     enum-told
     slice-aggregate-say-2
     say-requires-2
-    enum-known-verdict
+    enum-known-found
     cast-say-fault
     say-fault-requires
     enum-told-2
