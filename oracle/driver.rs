@@ -1,6 +1,6 @@
 // Answers scripts of calls (docs/REPLAY.md) with the Rust library bitter, built unchanged, and makes such scripts. A script has to stay
-// inside the library's domain: most of what we refuse has no counterpart here. A read that runs short answers 9 with the counts that
-// the Rust is left with.
+// inside the library's domain: most of what we refuse has no counterpart here, and no more has an end but the slice's. A read that runs
+// short answers 9 with the counts that the Rust is left with.
 //
 //   driver answer < script            writes the answers
 //   driver make DIR KIND SEED COUNT   writes scripts DIR/KIND-SEED-0000 .., COUNT of them, or all of an exhaustive kind
@@ -20,8 +20,9 @@ enum Reader {
 macro_rules! reader {
     ($r:expr, $x:ident, $e:expr) => {
         match $r {
-            Reader::Little($x) => $e,
-            Reader::Big($x) => $e,
+            Some(Reader::Little($x)) => $e,
+            Some(Reader::Big($x)) => $e,
+            None => panic!("a call on a cursor that is not set"),
         }
     };
 }
@@ -60,7 +61,8 @@ const BEFORE: usize = 8;
 struct Machine {
     little: bool,
     source: &'static [u8],
-    reader: Reader,
+    // none from a new order or source on until a cursor is set
+    reader: Option<Reader>,
     output: Vec<u8>,
     shared: Shared,
     writer: Writer,
@@ -72,7 +74,7 @@ impl Machine {
         Machine {
             little: true,
             source: Box::leak(vec![0x55; BEFORE].into_boxed_slice()),
-            reader: Reader::Little(LittleEndianReader::new(&[])),
+            reader: Some(Reader::Little(LittleEndianReader::new(&[]))),
             output: Vec::new(),
             writer: Writer::Little(LittleEndianWriter::new(shared.clone())),
             shared,
@@ -83,7 +85,12 @@ impl Machine {
         let mut all = vec![0x55; BEFORE];
         all.extend_from_slice(bytes);
         self.source = Box::leak(all.into_boxed_slice());
-        self.read_from(BEFORE);
+        self.reader = None;
+    }
+
+    fn set_order(&mut self, little: bool) {
+        self.little = little;
+        self.reader = None;
     }
 
     fn len(&self) -> usize {
@@ -91,11 +98,11 @@ impl Machine {
     }
 
     fn read_from(&mut self, start: usize) {
-        self.reader = if self.little {
+        self.reader = Some(if self.little {
             Reader::Little(LittleEndianReader::new(&self.source[start..]))
         } else {
             Reader::Big(BigEndianReader::new(&self.source[start..]))
-        };
+        });
     }
 
     // A reader with these counts: fresh some bytes before, filled, and drained.
@@ -185,8 +192,8 @@ fn answer(m: &mut Machine, line: &str, out: &mut String) {
         write!(out, "0 {:x} {:x}", m.shared.0.borrow().len(), held).unwrap();
     };
     match letter {
-        "L" => m.little = true,
-        "B" => m.little = false,
+        "L" => m.set_order(true),
+        "B" => m.set_order(false),
         "S" => m.set_source(&unhex(a.unwrap_or(""))),
         "O" => m.output = vec![hex(b) as u8; hex(a) as usize],
         "C" => {
@@ -337,6 +344,7 @@ fn answer(m: &mut Machine, line: &str, out: &mut String) {
             let v = if x.is_nan() { 0x7ff8_0000_0000_0000 } else { f64::from(x).to_bits() };
             write!(out, "0 {v:x}").unwrap()
         }
+        "E" | "l" | "g" | "k" | "K" => panic!("outside the domain: {line}"),
         _ => (),
     }
 }

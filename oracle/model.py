@@ -4,11 +4,14 @@ no code with the library. It answers scripts (docs/REPLAY.md) on every input, re
 
     model.py answer < script        the answers
     model.py refusals               the script of refusals: each number in each call where it can occur, on both sides of its line
+    model.py ends                   the script of ends: cursors that stop at every bit of short slices, with every call
 """
 import random
 import sys
 
 LIMIT = 16_777_216
+MOST = (1 << 64) - 1
+WIDTHS = [1, 8, 8, 16, 16, 32, 32, 32, 64, 64, 64]
 
 
 def bit(little, s, k):
@@ -45,7 +48,7 @@ def widened(b):
     return sign << 63 | exponent - 127 + 1023 << 52 | digits << 29
 
 
-# ---- cursors: (offset, lookahead, register)
+# ---- cursors: (offset, lookahead, register, end)
 
 def register(little, s, offset, lookahead):
     v = field(little, s, 8 * offset - lookahead, lookahead)
@@ -53,8 +56,10 @@ def register(little, s, offset, lookahead):
 
 
 def belongs(little, s, c):
-    offset, lookahead, reg = c
-    return offset <= len(s) and lookahead <= 63 and lookahead <= 8 * offset and reg == register(little, s, offset, lookahead)
+    offset, lookahead, reg, end = c
+    if not (offset <= len(s) and lookahead <= 63 and lookahead <= 8 * offset and reg == register(little, s, offset, lookahead)):
+        return False
+    return 8 * offset - lookahead <= end <= 8 * len(s)
 
 
 def refill(n, c):
@@ -96,7 +101,7 @@ def after_bytes(n, c, count):
 class Machine:
     def __init__(self):
         self.little, self.src, self.out = True, b"", bytearray()
-        self.cursor, self.writer = (0, 0, 0), (0, 0, 0)
+        self.cursor, self.writer = (0, 0, 0, 0), (0, 0, 0)
 
     # the refusal of the slice and the cursor, or of the output and the writer
     def of_cursor(self):
@@ -114,10 +119,13 @@ class Machine:
         return 8 * self.cursor[0] - self.cursor[1]
 
     def left(self):
-        return 8 * len(self.src) - self.place()
+        return self.cursor[3] - self.place()
+
+    def ahead(self):
+        return min(self.cursor[1], self.left())
 
     def go(self, counts):
-        self.cursor = (*counts, register(self.little, self.src, *counts))
+        self.cursor = (*counts, register(self.little, self.src, *counts), self.cursor[3])
 
     def read(self, w):
         e = self.of_cursor() or (3 if w > 64 else 0) or (9 if w > self.left() else 0)
@@ -168,7 +176,7 @@ class Machine:
 
     def answer(self, line):
         letter, words = line[0], line[1:].strip(" ").split(" ")
-        if letter not in "LBSOCDnbsfqhpcrymkNwxFYuzoKed":
+        if letter not in "LBSOCEDnbsfqhpcrymlkgNwxFYuzoKed":
             return None
         number = lambda i: int(words[i], 16) if i < len(words) and words[i] else 0
         a, b, c = number(0) if letter not in "SY" else 0, number(1), number(2)
@@ -180,34 +188,37 @@ class Machine:
         elif letter == "O":
             self.out = bytearray([b % 256]) * a
         elif letter == "C":
-            self.cursor = (a, b % (1 << 32), c)
+            self.cursor = (a, b % (1 << 32), c, 8 * len(self.src))
+        elif letter == "E":
+            self.cursor = (*self.cursor[:3], a)
         elif letter == "D":
             self.writer = (a, b % (1 << 32), c)
         elif letter == "n":
-            self.cursor = (0, 0, 0)
-            return self.told(1 if len(self.src) > LIMIT else 0, 0)
+            e = 1 if len(self.src) > LIMIT else 0
+            self.cursor = (0, 0, 0, 0 if e else 8 * len(self.src))
+            return self.told(e, 0)
         elif letter == "b":
             return self.told(*self.read(narrow(a)))
         elif letter == "s":
             e, v = self.read(narrow(a))
             return self.told(e, 0 if e else pattern(signed(a, v)))
         elif letter == "f":
-            w = [1, 8, 8, 16, 16, 32, 32, 32, 64, 64, 64][min(a, 10)]
+            w = WIDTHS[min(a, 10)]
             e, v = self.read(w)
             return self.told(e, pattern(signed(w, v)) if a in (2, 4, 6, 9) else v)
         elif letter == "q":
             e = self.of_cursor()
-            offset, r, _ = self.cursor
             if e:
                 return self.told(e, 0)
-            v = [len(self.src) - offset + r // 8, len(self.src) - offset, self.left(), self.left() == 0, r % 8 == 0, r][min(a, 5)]
+            left, unfetched = self.left(), self.cursor[3] // 8 - self.cursor[0]
+            v = [left // 8, max(0, unfetched), left, left == 0, self.place() % 8 == 0, self.ahead()][min(a, 5)]
             return self.told(0, int(v))
         elif letter == "h":
             e = self.of_cursor()
             return self.told(e, 0 if e else int(a <= self.left()))
         elif letter in "pc":
             a = narrow(a)
-            e = self.of_cursor() or (10 if a > self.cursor[1] else 0)
+            e = self.of_cursor() or (10 if a > self.ahead() else 0)
             if e:
                 return self.told(e, 0)
             v = field(self.little, self.src, self.place(), a) if letter == "p" else 0
@@ -221,21 +232,28 @@ class Machine:
             return self.told(e, 0)
         elif letter == "y":
             buf = b"\xee" * a
-            e = (1 if a > LIMIT else 0) or self.of_cursor()
-            e = e or (9 if a > len(self.src) - self.cursor[0] + self.cursor[1] // 8 else 0)
+            e = (1 if a > LIMIT else 0) or self.of_cursor() or (9 if 8 * a > self.left() else 0)
             if not e:
                 buf = bytes(field(self.little, self.src, self.place() + 8 * i, 8) for i in range(a))
                 self.go(after_bytes(len(self.src), self.cursor[:2], a))
             return self.told(e, 0 if e else a) + " " + buf.hex()
         elif letter == "m":
-            e = self.of_cursor()
+            end = self.cursor[3]
+            e = self.of_cursor() or (14 if end % 8 else 0)
             if e:
                 return self.told(e, 0) + " "
-            offset, r, _ = self.cursor
-            v = 16 * field(self.little, self.src, self.place(), r % 8) + r % 8
-            return self.told(0, v) + " " + self.src[offset - r // 8:].hex()
+            part = -self.place() % 8
+            v = 16 * field(self.little, self.src, self.place(), part) + part
+            return self.told(0, v) + " " + self.src[(self.place() + part) // 8:end // 8].hex()
+        elif letter == "l":
+            e = self.of_cursor() or (0 if self.place() <= a <= self.cursor[3] else 13)
+            if not e:
+                self.cursor = (*self.cursor[:3], a)
+            return self.told(e, 0)
         elif letter == "k":
-            return "%x %x %x" % self.cursor
+            return "%x %x %x" % self.cursor[:3]
+        elif letter == "g":
+            return "%x" % self.cursor[3]
         elif letter == "N":
             self.writer = (0, 0, 0)
             return self.wrote(1 if len(self.out) > LIMIT else 0)
@@ -246,7 +264,7 @@ class Machine:
         elif letter == "F":
             if a == 7:
                 return self.write_single()
-            w = [1, 8, 8, 16, 16, 32, 32, 32, 64, 64, 64][min(a, 10)]
+            w = WIDTHS[min(a, 10)]
             return self.write(w, int(b == 1) if a == 0 else b % (1 << w))
         elif letter == "Y":
             data = bytes.fromhex(words[0])
@@ -335,6 +353,9 @@ def refusals():
                 yield "C %x %x %x" % c
                 yield rng.choice(["b 41", "c 40", "y 64"])
                 yield "k"
+                # an end within the last byte, the slice's, and one behind it; the script of ends has more
+                for end in (15, 16, 17) if n == 2 else ():
+                    yield from ("E %x" % end, "m", "l %x" % (end + 1), "l %x" % end, "l 0", "g")
     # writers: each way of not belonging, each side of room, of widths and of values
     for size in (0, 9):
         for little in (True, False):
@@ -368,12 +389,159 @@ def refusals():
             yield "e %x %x" % (v, w)
 
 
+# ---- the script of ends
+
+def at(little, src, counts, end):
+    """the lines that set the cursor of a slice with these counts and this end"""
+    return ["C %x %x %x" % (*counts, register(little, src, *counts)), "E %x" % end]
+
+
+def staying(left, ahead):
+    """calls that leave a cursor with so many bits left and ahead as it is: those that tell, and those that ask one too many"""
+    yield from ("q %x" % k for k in range(6))
+    yield from ("h %x" % n for n in (left, left + 1))
+    yield from ("p %x" % n for n in (0, ahead, ahead + 1))
+    yield from ("c %x" % (ahead + 1), "b %x" % (left + 1), "s %x" % (left + 1), "b 41", "y %x" % (left // 8 + 1), "m")
+    yield from ("f %x" % k for k, w in enumerate(WIDTHS) if w > left)
+
+
+def going(left, ahead):
+    """calls that such a cursor allows, and goes on by"""
+    yield from ("b %x" % w for w in sorted({0, 1, left // 2, left}))
+    yield from ("s %x" % left, "c %x" % ahead, "c %x" % (ahead // 2), "r", "y %x" % (left // 8))
+    yield from ("f %x" % k for k, w in enumerate(WIDTHS) if w <= left)
+
+
+def every_call(little, src, counts, end):
+    """every call on the cursor with these counts and this end"""
+    most = 8 * len(src)
+    start, place = at(little, src, counts, end), 8 * counts[0] - counts[1]
+    good = place <= end <= most
+    left = (end if good else most) - place
+    ahead = min(counts[1], left)
+    yield from start
+    yield from staying(left, ahead)
+    lower = {0, max(0, place - 1), place, (place + end) // 2, end, min(end + 1, MOST), most}
+    if most <= 8 or end == most:
+        lower = {*range(most + 2), MOST}
+    for e in sorted(lower):
+        yield from ("l %x" % e, "g")
+        if place <= e <= end:
+            yield start[1]
+    # of a cursor whose end is not good these are refused too, and it stays
+    for call in going(left, ahead):
+        yield from (*start, call, "k", "g") if good else (call,)
+    yield from ("k", "g")
+
+
+def to_the_end(little, src):
+    """reads of wide fields and of bytes that stop at an end within the slice, and one bit past it"""
+    calls = [(w, "bs"[w % 2] + " %x" % w) for w in (1, 31, *range(56, 65))] + [(64, "f 8"), (64, "f 9"), (64, "f a")]
+    calls += [(8 * n, "y %x" % n) for n in (1, 2, 7, 8, 9, 15)]
+    for counts in ((0, 0), (1, 3), (8, 63), (9, 9), (9, 63)):
+        place = 8 * counts[0] - counts[1]
+        for width, call in calls:
+            for end in (place + width, place + width - 1):
+                if end <= 8 * len(src):
+                    yield from (*at(little, src, counts, end), call, "k", "g")
+
+
+def eight_before_the_end(little, src):
+    """narrow reads with eight bytes before the offset, and about eight before the end, up to ends behind the slice"""
+    for counts in ((8, 0), (8, 63), (9, 1)):
+        first = 8 * counts[0] + 62
+        for end in (*range(first, first + 4), *range(8 * len(src) - 1, 8 * len(src) + 3), MOST):
+            for w in (1, 56):
+                yield from (*at(little, src, counts, end), "b %x" % w, "k", "g")
+
+
+def past_the_end(little, src):
+    """peeks and consumes behind a refill, which fetches bytes past the end, at every end"""
+    for end in range(8 * len(src) + 1):
+        ahead = min(56, end)
+        yield from (*at(little, src, (0, 0), end), "r", "q 5", "p %x" % ahead, "p %x" % (ahead + 1), "c %x" % (ahead + 1))
+        yield from ("h %x" % MOST, "c %x" % ahead, "q 1", "q 2", "q 5", "r", "q 5", "k", "g")
+
+
+def remainders(little, src):
+    """the remainder at every end"""
+    for counts in ((0, 0), (1, 8), (2, 1), (3, 12), (8, 59)):
+        yield at(little, src, counts, 0)[0]
+        for end in (*range(8 * len(src) + 2), MOST):
+            yield from ("E %x" % end, "m")
+
+
+def foreign(little, src, rng):
+    """cursors of another slice with ends that are good, within a byte, and behind the slice: 2 before 13 and 14"""
+    most = 8 * len(src)
+    for c in cursors(little, src, rng):
+        yield from ("C %x %x %x" % c, "g")
+        for end in (0, most - 1, most, most + 1, MOST):
+            yield from ("E %x" % end, "m", "q 2", "l %x" % (most + 2), "l %x" % most, "l 0", "g")
+
+
+def walk(little, src, rng):
+    """calls one after the other from a fresh cursor, its end lowered now and then"""
+    m = Machine()
+    start = ["LB"[not little], "S " + src.hex(), "g", "n", "g"]
+    for line in start:
+        m.answer(line)
+    yield from start
+    for _ in range(rng.randrange(40)):
+        left, ahead = m.left(), m.ahead()
+        few = rng.choice((left, left + 1, rng.randrange(left + 1), rng.randrange(65)))
+        end = m.place() + rng.choice((left, left + 1, left - left // 4, left - left // 8, -1))
+        call = rng.choice(("b %x" % min(few, 64), "b %x" % rng.randrange(20), "s %x" % min(few, 64), "f %x" % rng.randrange(11),
+                           "q %x" % rng.randrange(6), "h %x" % few, "p %x" % rng.randrange(ahead + 2), "c %x" % rng.randrange(ahead + 2),
+                           "r", "r", "y %x" % rng.randrange(left // 8 + 2), "m", "k", "l %x" % max(0, end)))
+        m.answer(call)
+        yield call
+        if call[0] == "l":
+            yield "g"
+
+
+def ends():
+    yield "# Cursors that stop early: at every bit of short slices with every call. Made by oracle/model.py, as are the answers."
+    rng = random.Random(20261116)
+    some = lambda n: bytes(rng.randrange(256) for _ in range(n))
+    for n in (0, 1, 2):
+        src = some(n)
+        counts = [(offset, r) for offset in range(n + 1) for r in range(8 * offset + 1)]
+        if n == 2:
+            counts = [(0, 0), (1, 0), (1, 5), (1, 8), (2, 3), (2, 10), (2, 16)]
+        for little in (True, False):
+            yield from ("LB"[not little], "S " + src.hex())
+            for c in counts:
+                for end in (*range(8 * n + 2), MOST):
+                    yield from every_call(little, src, c, end)
+    for n in (9, 17):
+        src = some(n)
+        for little in (True, False):
+            yield from ("LB"[not little], "S " + src.hex())
+            yield from to_the_end(little, src)
+            if n == 9:
+                yield from past_the_end(little, src)
+                yield from remainders(little, src)
+            else:
+                yield from eight_before_the_end(little, src)
+    src = some(2)
+    for little in (True, False):
+        yield from ("LB"[not little], "S " + src.hex())
+        yield from foreign(little, src, rng)
+    for n in range(40):
+        for little in (True, False):
+            yield from walk(little, some(n), rng)
+
+
 if __name__ == "__main__":
     if sys.argv[1:] == ["answer"]:
         for told in answers(sys.stdin.read()):
             print(told)
     elif sys.argv[1:] == ["refusals"]:
         for line in refusals():
+            print(line)
+    elif sys.argv[1:] == ["ends"]:
+        for line in ends():
             print(line)
     else:
         sys.exit(__doc__)

@@ -18,7 +18,8 @@ fn first(buf: &[u8]) -> u64 {
 
 // The buffer filled some times, from where the last time ended.
 pub fn reads_big(src: &[u8], skip: u32, buf: &mut [u8], times: usize) -> u64 {
-    let start = Cursor::from_parts(0, 0, 0);
+    let fresh = Cursor::new(src);
+    let start = fresh.cursor;
     let skipped = start.read_bits(Order::Big, src, skip);
     let mut cursor = skipped.cursor;
     let mut sum: u64 = 0;
@@ -36,7 +37,8 @@ pub fn reads_big(src: &[u8], skip: u32, buf: &mut [u8], times: usize) -> u64 {
 }
 
 pub fn reads_little(src: &[u8], skip: u32, buf: &mut [u8], times: usize) -> u64 {
-    let start = Cursor::from_parts(0, 0, 0);
+    let fresh = Cursor::new(src);
+    let start = fresh.cursor;
     let skipped = start.read_bits(Order::Little, src, skip);
     let mut cursor = skipped.cursor;
     let mut sum: u64 = 0;

@@ -79,7 +79,8 @@ pub fn fields(order: Order, src: &[u8], plan: &[u8], results: &mut [u64]) -> u64
 
 // A plan by the public call, n times or as often as the slice has its layout.
 pub fn runs_big(src: &[u8], plan: &[u8], n: usize, results: &mut [u64]) -> u64 {
-    let mut cursor = Cursor::from_parts(0, 0, 0);
+    let fresh = Cursor::new(src);
+    let mut cursor = fresh.cursor;
     let mut sum: u64 = 0;
     let mut left = n;
     while 0 < left {
@@ -95,7 +96,8 @@ pub fn runs_big(src: &[u8], plan: &[u8], n: usize, results: &mut [u64]) -> u64 {
 }
 
 pub fn runs_little(src: &[u8], plan: &[u8], n: usize, results: &mut [u64]) -> u64 {
-    let mut cursor = Cursor::from_parts(0, 0, 0);
+    let fresh = Cursor::new(src);
+    let mut cursor = fresh.cursor;
     let mut sum: u64 = 0;
     let mut left = n;
     while 0 < left {

@@ -6,7 +6,8 @@ use reader::Cursor;
 
 // n fields of 38 bits by the public call, or as many as there are.
 pub fn fixed_big(src: &[u8], n: usize) -> u64 {
-    let mut cursor = Cursor::from_parts(0, 0, 0);
+    let fresh = Cursor::new(src);
+    let mut cursor = fresh.cursor;
     let mut sum: u64 = 0;
     let mut left = n;
     while 0 < left {
@@ -22,7 +23,8 @@ pub fn fixed_big(src: &[u8], n: usize) -> u64 {
 }
 
 pub fn fixed_little(src: &[u8], n: usize) -> u64 {
-    let mut cursor = Cursor::from_parts(0, 0, 0);
+    let fresh = Cursor::new(src);
+    let mut cursor = fresh.cursor;
     let mut sum: u64 = 0;
     let mut left = n;
     while 0 < left {
@@ -39,7 +41,8 @@ pub fn fixed_little(src: &[u8], n: usize) -> u64 {
 
 // The same of a width that is handed in.
 pub fn given_big(src: &[u8], w: u32, n: usize) -> u64 {
-    let mut cursor = Cursor::from_parts(0, 0, 0);
+    let fresh = Cursor::new(src);
+    let mut cursor = fresh.cursor;
     let mut sum: u64 = 0;
     let mut left = n;
     while 0 < left {
@@ -55,7 +58,8 @@ pub fn given_big(src: &[u8], w: u32, n: usize) -> u64 {
 }
 
 pub fn given_little(src: &[u8], w: u32, n: usize) -> u64 {
-    let mut cursor = Cursor::from_parts(0, 0, 0);
+    let fresh = Cursor::new(src);
+    let mut cursor = fresh.cursor;
     let mut sum: u64 = 0;
     let mut left = n;
     while 0 < left {

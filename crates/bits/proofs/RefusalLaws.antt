@@ -123,3 +123,10 @@ module _ {e f : ℕ} (found : e ≡ f) where
 pub if-holds : {X : Type 0} (P : X → Type 0) (e : ℕ) (x y : X) → P y → (e ≡ done → P (ifDone e x y)) → P (ifDone e x y)
 if-holds P e x y came then =
     by-test (eqb e done) (λ t. then (eqb-true e done t)) (λ t. subst P (if-refused refl x y (eqb-false e done t)) came)
+
+-- two calls that are refused alike give the same, if they do where they are done and where they are not
+pub if-alike : {X : Type 0} {a b : ℕ} {x y u v : X} → a ≡ b → (a ≡ done → x ≡ y) → u ≡ v → ifDone a x u ≡ ifDone b y v
+if-alike {a = a} {b = b} e p q =
+    by-test (eqb a done)
+    (λ t. let z = eqb-true a done t in rw (t, eq-eqb b done (sym e ∙ z)) (p z))
+    (λ t. rw (t, ne-eqb b done (λ z. eqb-false a done t (e ∙ z))) q)

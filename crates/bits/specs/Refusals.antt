@@ -53,6 +53,14 @@ pastLookahead = 10
 abbrev pub badRow : ℕ
 badRow = 11
 
+-- a cursor's end raised, or put before its place
+abbrev pub badEnd : ℕ
+badEnd = 13
+
+-- a remainder asked of a cursor whose end is not a multiple of 8
+abbrev pub endInByte : ℕ
+endInByte = 14
+
 -- a write of a retired kind: a single
 abbrev pub retiredKind : ℕ
 retiredKind = 16

@@ -23,6 +23,10 @@ pub const PAST_LOOKAHEAD: u32 = 10;
 
 pub const BAD_ROW: u32 = 11;
 
+pub const BAD_END: u32 = 13;
+
+pub const END_IN_BYTE: u32 = 14;
+
 pub const RETIRED_KIND: u32 = 16;
 
 // The longest byte slice that a call takes.

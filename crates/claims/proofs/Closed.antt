@@ -21,10 +21,10 @@ use Rattle.reader.specs.declared.ReadU64.{ReadU64}
 use Rattle.reader.specs.declared.Cursor.{Cursor}
 use Rattle.reader.specs.Cursor.{bitsLeft, cursorRefusal}
 use Rattle.reader.specs.Answers as R
-use Rattle.reader.proofs.CursorLaws.{refusal-own, left-inside}
+use Rattle.reader.proofs.CursorLaws.{refusal-own, left-stop, stop-inside}
 use Rattle.reader.proofs.AnswerLaws.{read-refusal, bytes-none, none-out}
-use Rattle.reader.proofs.ReadLaws.{fresh-done, fresh-belongs, fresh-place, fresh-left, read-refused, read-enough, read-short, read-value, read-place, read-left, read-belongs, peek-value, consume-advanced, refill-advanced, bytes-advanced, bytes-field}
-use Rattle.reader.proofs.RemainderLaws.{remainder-where}
+use Rattle.reader.proofs.ReadLaws.{fresh-done, fresh-belongs, fresh-place, fresh-stop, fresh-left, read-refused, read-enough, read-short, read-value, read-place, read-left, read-belongs, peek-value, consume-advanced, refill-advanced, bytes-advanced, bytes-field}
+use Rattle.reader.proofs.RemainderLaws.{remainder-where, remainder-none}
 use Rattle.packing.specs.Packing.{Belongs, stateRefusal}
 use Rattle.writer.specs.declared.Writer.{Writer}
 use Rattle.writer.specs.declared.Wrote.{Wrote}
@@ -33,7 +33,7 @@ use Rattle.writer.specs.Answers as W
 use Rattle.writer.proofs.WriteLaws.{Stored, write-stored, signed-stored, bytes-stored, flush-stored}
 use Rattle.packing.proofs.BelongsLaws.{belongs-refusal, refusal-belongs, many-held}
 use Rattle.writer.proofs.AnswerLaws.{single-refused, write-accepted}
-use Rattle.inplace.proofs.Theorems.{consume-refused, refill-refused}
+use Rattle.inplace.proofs.Theorems.{consume-refused, refill-refused, lower-refused}
 use Rattle.floats.proofs.FloatLaws.{single-same, double-same, single-plain, double-plain}
 use Rattle.floats.proofs.WideningLaws.{exact, signs-kept, nan-widened}
 use Rattle.floats.proofs.WideningNumbers.{exact-numbers}
@@ -87,7 +87,7 @@ kept : {X : Type 0} (e : ℕ) (x y : X) → (e ≡ done → ⊥) → ifDone e x 
 kept e x y h = sym (if-refused refl x y h)
 
 pub refused-reads : C.RefusedReads
-unfolding R.bytesOf R.bytesOut R.consumeOf R.refillOf
+unfolding R.bytesOf R.bytesOut R.consumeOf R.refillOf R.lowerOf
 refused-reads o s c = (
   λ w h.
       let e = read-refused o s c w (λ z. h (read-refusal o s c w ∙ z)) in
@@ -95,6 +95,7 @@ refused-reads o s c = (
   λ out h. (kept _ _ _ h, kept _ _ _ h),
   λ n h. kept _ _ _ h,
   λ h. kept _ _ _ h,
+  λ e h. kept _ _ _ h,
 )
 
 pub refused-writes : C.RefusedWrites
@@ -131,7 +132,7 @@ refused-outputs s out = (
 )
 
 pub refused-in-place : C.RefusedInPlace
-refused-in-place o s c d r h = (λ n p. consume-refused h o s c n p, λ p. refill-refused h o s c p)
+refused-in-place o s c d r h = (λ n p. consume-refused h o s c n p, λ p. refill-refused h o s c p, λ e p. lower-refused h o s c e p)
 
 -- ---- the writers and cursors that calls make
 
@@ -162,10 +163,10 @@ fields-read o s c w own wide = (
 )
 
 pub left-is-inside : C.LeftInside
-left-is-inside o s c own = left-inside (refusal-own own .fits)
+left-is-inside o s c own = (left-stop (refusal-own own .fits), stop-inside (refusal-own own .fits))
 
 pub fresh-cursor : C.FreshCursor
-fresh-cursor o s short = (fresh-done s short, fresh-belongs s short o, fresh-place s, fresh-left s)
+fresh-cursor o s short = (fresh-done s short, fresh-belongs s short o, fresh-place s, fresh-stop s short, fresh-left s short)
 
 pub bytes-read : C.BytesRead
 unfolding R.bytesOf
@@ -179,7 +180,7 @@ unfolding R.peekOf R.refillOf
 manual-reads o s c = (λ n e. (peek-value o s c n e, consume-advanced o s c n e .ahead), λ e. refill-advanced o s c e .ahead ∙ add-zero _)
 
 pub remainder-is-where : C.RemainderWhere
-remainder-is-where = remainder-where
+remainder-is-where o s c own = (remainder-where o s c own, remainder-none o s c own)
 
 pub sign-extends : C.SignExtends
 unfolding extendOf extendRefusal firstRefusal orElse

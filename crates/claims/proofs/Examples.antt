@@ -16,9 +16,10 @@ use Rattle.counts.specs.Counts.{afterRead}
 use Rattle.lookahead.specs.State.{registerOf, belongs, stateRefusal}
 use Rattle.reader.specs.declared.Cursor.{Cursor}
 use Rattle.reader.specs.declared.ReadU64.{ReadU64}
+use Rattle.reader.specs.declared.Moved.{Moved}
 use Rattle.reader.specs.declared.Partial.{Partial}
 use Rattle.reader.specs.Cursor.{cursorRefusal, bitsLeft, cursorAt}
-use Rattle.reader.specs.Answers.{newOf, readRefusal, readOf, startOf, remainderOf, partialOf}
+use Rattle.reader.specs.Answers.{newOf, readRefusal, readOf, remainderRefusal, startOf, remainderOf, partialOf, lowerRefusal, lowerOf}
 use Rattle.packing.specs.Packing as P
 use Rattle.packing.specs.Packing.{bytesOf, put, putOut}
 use Rattle.layout.specs.declared.Compiled.{Compiled}
@@ -66,6 +67,9 @@ pub data Asked : Type 0 where
   writes : Order → List ℕ → List Field → Asked
   -- after a read of some bits from a fresh cursor: the partial bits, their value, and the bytes of the remainder
   remains : Order → List ℕ → ℕ → Asked
+  -- the first two from a fresh cursor whose end is lowered: behind the refusal numbers of `lower_end`, and of `partial`
+  reads-to : ℕ → Order → List ℕ → List ℕ → Asked
+  remains-to : ℕ → Order → List ℕ → ℕ → Asked
   -- the plan of a layout compiled into an output: the refusal number, the plan's length, and the output
   compiles : List ℕ → List ℕ → Asked
   -- the text of a strip, listed into an output with room for so many bytes: the refusal number, the length, and the text
@@ -100,6 +104,12 @@ told (remains o s n) =
     let c : Cursor = readOf o s (newOf s .cursor) n .cursor in
     let p : Partial = partialOf o s c in
     (pos (p .«partial_bits») ∷ pos (p .«partial_byte») ∷ map pos (remainderOf o s c))
+told (reads-to e o s ws) = let m : Moved = lowerOf o s (newOf s .cursor) e in (pos (m .refusal) ∷ readings o s (m .cursor) ws)
+told (remains-to e o s n) =
+    let m : Moved = lowerOf o s (newOf s .cursor) e in
+    let c : Cursor = readOf o s (m .cursor) n .cursor in
+    let p : Partial = partialOf o s c in
+    (pos (m .refusal) ∷ pos (p .refusal) ∷ pos (p .«partial_bits») ∷ pos (p .«partial_byte») ∷ map pos (remainderOf o s c))
 told (compiles s out) =
     let r : Compiled = compileOf s (length out) in (pos (r .refusal) ∷ pos (r .length) ∷ map pos (compileOut s out))
 told (listed-by-program s) = map pos (listAnswer s)
@@ -130,6 +140,12 @@ table =
     -- P4
     ∷ (reads Little [] (0 ∷ 1 ∷ []) gives (pos 0 ∷ pos 0 ∷ pos 9 ∷ pos 0 ∷ []))
     ∷ (reads Big [] (0 ∷ 1 ∷ []) gives (pos 0 ∷ pos 0 ∷ pos 9 ∷ pos 0 ∷ []))
+    -- an end within a byte, one that wraps two bytes, one that is raised, and one before which nothing is left
+    ∷ (reads-to 11 Big (0xff ∷ 0x04 ∷ []) (8 ∷ 3 ∷ 1 ∷ []) gives (pos 0 ∷ pos 0 ∷ pos 255 ∷ pos 0 ∷ pos 0 ∷ pos 9 ∷ pos 0 ∷ []))
+    ∷ (remains-to 11 Big (0xff ∷ 0x04 ∷ []) 8 gives (pos 0 ∷ pos 14 ∷ pos 0 ∷ pos 0 ∷ []))
+    ∷ (remains-to 16 Big (0x7e ∷ 0xa5 ∷ 0x01 ∷ []) 4 gives (pos 0 ∷ pos 0 ∷ pos 4 ∷ pos 0xe ∷ pos 0xa5 ∷ []))
+    ∷ (reads-to 17 Big (0xff ∷ 0x04 ∷ []) (16 ∷ []) gives (pos 13 ∷ pos 0 ∷ pos 0xff04 ∷ []))
+    ∷ (reads-to 0 Little (0xff ∷ 0x04 ∷ []) (0 ∷ 1 ∷ []) gives (pos 0 ∷ pos 0 ∷ pos 0 ∷ pos 9 ∷ pos 0 ∷ []))
     -- P5
     ∷ (extends 0 0 gives (pos 0 ∷ pos 0 ∷ []))
     ∷ (extends 1 1 gives (pos 0 ∷ negsuc 0 ∷ []))
@@ -202,5 +218,5 @@ table =
 
 -- every example of the table is answered as expected
 pub table-holds : map (λ (e : Example). told (e .asked)) table ≡ map (λ (e : Example). e .expected) table
-unfolding told listAnswer packAnswer rowsAnswer packRowsAnswer checkAnswer verdictSaid okSaid faultSaid verdictOf verdictFrom ruleBroken tooLongSaid badLineSaid badRowSaid letter columnsAt columnsOf bitsOfColumns rowBytes within inRange recordSaid rowsBytes rowsWhole recordsInRows badFrom headed linesIn stripBytes joined bitsOf fits sixAt dateAt thousandthsAt complement magnitudeAt closed wholeAt decimalsAt run after valueFrom unitsOf pattern readings writings ascii digitsOf placesIn fixedOf spelled partsOf lineOf recordAt recordsFrom tailGood header badTail listed listRefusal listOf itemsOf goodItems isLayout takes refilled compileRefusal compileOf compileOut oversized writeRefusal writeOf writeOut flushOf flushOut W.newOf P.belongs P.stateRefusal bytesOf put putOut first rest extendRefusal extendOf signed newOf readRefusal readOf startOf remainderOf partialOf cursorRefusal bitsLeft cursorAt orElse firstRefusal stateRefusal belongs registerOf afterRead position bit join field held
+unfolding told listAnswer packAnswer rowsAnswer packRowsAnswer checkAnswer verdictSaid okSaid faultSaid verdictOf verdictFrom ruleBroken tooLongSaid badLineSaid badRowSaid letter columnsAt columnsOf bitsOfColumns rowBytes within inRange recordSaid rowsBytes rowsWhole recordsInRows badFrom headed linesIn stripBytes joined bitsOf fits sixAt dateAt thousandthsAt complement magnitudeAt closed wholeAt decimalsAt run after valueFrom unitsOf pattern readings writings ascii digitsOf placesIn fixedOf spelled partsOf lineOf recordAt recordsFrom tailGood header badTail listed listRefusal listOf itemsOf goodItems isLayout takes refilled compileRefusal compileOf compileOut oversized writeRefusal writeOf writeOut flushOf flushOut W.newOf P.belongs P.stateRefusal bytesOf put putOut first rest extendRefusal extendOf signed newOf readRefusal readOf remainderRefusal startOf remainderOf partialOf lowerRefusal lowerOf cursorRefusal bitsLeft cursorAt orElse firstRefusal stateRefusal belongs registerOf afterRead position bit join field held
 table-holds = refl

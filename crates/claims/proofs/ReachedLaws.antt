@@ -1,7 +1,7 @@
--- Every writer and every cursor that calls make belongs, by one induction each: a refused call answers what came, and of each call that is
+-- Every writer and every cursor that calls make belongs, and a call leaves the end where it is, by one induction each: a refused call answers what came, and of each call that is
 -- done its crate has a law that what it answers belongs. Assumes nothing.
-use Prim.Native.Nat.{ℕ, _≤_}
-use mathlib.Core.Path.{_≡_, refl, sym, subst}
+use Prim.Native.Nat.{ℕ, _+_, _≤_}
+use mathlib.Core.Path.{_≡_, refl, sym, ap, _∙_, subst}
 use mathlib.Core.List.{List}
 use native.Mathlib.Omega.{arith}
 use lib.ListN.{length, replicate, length-replicate}
@@ -13,12 +13,15 @@ use Rattle.bits.specs.Refusals.{longest, done}
 use Rattle.bits.proofs.RefusalLaws.{if-holds}
 use Rattle.bits.proofs.TestLaws.{by-test}
 use Rattle.floats.specs.Floats.{doubleBits}
+use Rattle.floats.proofs.FloatLaws.{cond-either}
 use Rattle.packing.specs.Packing.{Belongs}
 use Rattle.packing.proofs.BelongsLaws.{belongs-refusal}
 use Rattle.reader.specs.declared.Cursor.{Cursor}
 use Rattle.reader.specs.declared.ReadU64.{ReadU64}
-use Rattle.reader.specs.Cursor.{cursorRefusal}
+use Rattle.reader.specs.Cursor.{place, stop, goneTo, cursorRefusal}
 use Rattle.reader.specs.Answers as R
+use Rattle.reader.proofs.CursorLaws.{refusal-own, gone-stop}
+use Rattle.reader.proofs.EndLaws.{stop-stays, read-stop, bytes-stop, consume-stop, refill-stop, lower-belongs}
 use Rattle.reader.proofs.ReadLaws.{fresh-belongs, read-belongs, bytes-advanced, consume-advanced, refill-advanced}
 use Rattle.writer.specs.declared.Writer.{Writer}
 use Rattle.writer.specs.Writer.{stateIn, writerRefusal}
@@ -28,13 +31,15 @@ use Rattle.typed.specs.declared.Typed.{Typed}
 use Rattle.typed.specs.declared.Typed.the-variants as Case
 use Rattle.typed.specs.Typed.{widthOf}
 use Rattle.typed.specs.Answers as T
-use Rattle.plan.specs.Run.{runOf}
+use Rattle.layout.specs.Layout.{bitsOf}
+use Rattle.plan.specs.Run.{fieldsOf, runRefusal, runOf}
 use Rattle.plan.proofs.Theorems.{run-belongs}
+use Rattle.record.specs.Record.{recordBits}
 use Rattle.strip.specs.Answers as S
 use Rattle.strip.specs.declared.RecordRead.{RecordRead}
 use Rattle.strip.proofs.AnswerLaws.{pack-stored, record-belongs}
 use Rattle.claims.specs.Reached as Made
-use Rattle.claims.specs.Reached.{Reached, ReachedCursor, cursorOf}
+use Rattle.claims.specs.Reached.{Reached, Only, Called, ReachedCursor, cursorOf}
 
 -- ---- writers
 
@@ -94,13 +99,35 @@ module _ (In : Order → Type 0) (s : List ℕ) (short : length s ≤ longest) (
   unfolding R.readOf
   read-owned c k o a w = if-holds (λ (r : ReadU64). Owned (r .cursor)) _ _ _ k (λ z. (o, a, read-belongs o s c w z))
 
-  pub cursor-owned : {c : Cursor} → ReachedCursor In s c → Owned c
+  called-owned : {c d : Cursor} {o : Order} → Owned c → In o → Called s c o d → Owned d
   unfolding R.bytesOf R.consumeOf R.refillOf T.readOf runOf S.readOf
+  called-owned {c} {o = o} k a (Made.read-bits w) = read-owned c k o a w
+  called-owned {c} {o = o} k a (Made.read-bytes n) = if-holds Owned _ _ _ k (λ z. (o, a, bytes-advanced o s c n z .belongs))
+  called-owned {c} {o = o} k a (Made.consume n) = if-holds Owned _ _ _ k (λ z. (o, a, consume-advanced o s c n z .belongs))
+  called-owned {c} {o = o} k a Made.refill-lookahead = if-holds Owned _ _ _ k (λ z. (o, a, refill-advanced o s c z .belongs))
+  called-owned {c} {o = o} k a (Made.read-typed kind w) = subst Owned (sym (typed-cursor _ _ _)) (read-owned c k o a (widthOf kind w))
+  called-owned {c} {o = o} k a (Made.run q room) = if-holds Owned _ _ _ k (λ z. (o, a, run-belongs o s c q room z))
+  called-owned {c} k a Made.read-record = if-holds (λ (x : RecordRead). Owned (x .cursor)) _ _ _ k (λ z. (Big, a, record-belongs s c z))
+
+  pub cursor-owned : {c : Cursor} → ReachedCursor In s c → Owned c
+  unfolding R.lowerOf
   cursor-owned Made.new = (p, some, fresh-belongs s short p)
-  cursor-owned (Made.read-bits {c} {o} r a w) = read-owned c (cursor-owned r) o a w
-  cursor-owned (Made.read-bytes {c} {o} r a n) = if-holds Owned _ _ _ (cursor-owned r) (λ z. (o, a, bytes-advanced o s c n z .belongs))
-  cursor-owned (Made.consume {c} {o} r a n) = if-holds Owned _ _ _ (cursor-owned r) (λ z. (o, a, consume-advanced o s c n z .belongs))
-  cursor-owned (Made.refill-lookahead {c} {o} r a) = if-holds Owned _ _ _ (cursor-owned r) (λ z. (o, a, refill-advanced o s c z .belongs))
-  cursor-owned (Made.read-typed {c} {o} r a k w) = subst Owned (sym (typed-cursor _ _ _)) (read-owned c (cursor-owned r) o a (widthOf k w))
-  cursor-owned (Made.run {c} {o} r a q room) = if-holds Owned _ _ _ (cursor-owned r) (λ z. (o, a, run-belongs o s c q room z))
-  cursor-owned (Made.read-record {c} r a) = if-holds (λ (x : RecordRead). Owned (x .cursor)) _ _ _ (cursor-owned r) (λ z. (Big, a, record-belongs s c z))
+  cursor-owned (Made.next r a x) = called-owned (cursor-owned r) a x
+  cursor-owned (Made.lower-end {c} {o} r a e) = if-holds Owned _ _ _ (cursor-owned r) (λ z. (o, a, lower-belongs o s c e z))
+
+-- a call in one order from a cursor that belongs leaves one that belongs
+pub called-belongs : {s : List ℕ} {c d : Cursor} {o : Order} → cursorRefusal o s c ≡ done → Called s c o d → cursorRefusal o s d ≡ done
+called-belongs {s} {c} {d} {o} own x =
+    let (q, same, belongs) = called-owned (Only o) s (refusal-own own .fits .short) o refl (o, refl, own) refl x in
+    subst (λ (r : Order). cursorRefusal r s d ≡ done) same belongs
+
+-- and in any order the end stays
+pub called-stop : {s : List ℕ} {c d : Cursor} {o : Order} → Called s c o d → stop s d ≡ stop s c
+unfolding T.readOf runOf S.readOf
+called-stop {s} {c} {o = o} (Made.read-bits w) = read-stop o s c w
+called-stop {s} {c} {o = o} (Made.read-bytes n) = bytes-stop o s c n
+called-stop {s} {c} {o = o} (Made.consume n) = consume-stop o s c n
+called-stop {s} {c} {o = o} Made.refill-lookahead = refill-stop o s c
+called-stop {s} {c} {o = o} (Made.read-typed k w) = ap (stop s) (typed-cursor _ _ _) ∙ read-stop o s c (widthOf k w)
+called-stop {s} {c} {o = o} (Made.run q room) = let p = place c + bitsOf (fieldsOf q) in stop-stays o s c (runRefusal o s c q room) (goneTo o s c p) (gone-stop o s c p)
+called-stop {s} {c} Made.read-record = cond-either (λ (x : RecordRead). stop s (x .cursor) ≡ stop s c) (eqb (S.readRefusal s c) done) (λ z. gone-stop Big s c (place c + recordBits)) (λ z. refl)

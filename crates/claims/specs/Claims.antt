@@ -8,11 +8,11 @@ use mathlib.Core.List.{List, [], _∷_, _++_, map}
 use lib.IntN.{ℤ}
 use lib.ListN.{length, take, drop, getD}
 use lib.Dec.{leb}
-use lib.Seq.{sets}
+use lib.Seq.{sets, slice}
 use lib.Ieee.{binary32, binary64, nanBits, ofBits}
 use Rattle.bits.specs.declared.Order.{Order}
 use Rattle.bits.specs.declared.Order.the-variants.{Big}
-use Rattle.bits.specs.Refusals.{longest, done, tooLong, foreign, badPlan, badLine, tooFew, badRow, retiredKind, orElse}
+use Rattle.bits.specs.Refusals.{longest, done, tooLong, foreign, badPlan, badLine, tooFew, badRow, endInByte, retiredKind, orElse}
 use Rattle.bits.specs.Field.{field, join}
 use Rattle.bits.specs.Signed.{signed, pattern}
 use Rattle.packing.specs.Packing.{filled, story}
@@ -20,7 +20,7 @@ use Rattle.record.specs.declared.Record.{Record}
 use Rattle.record.specs.Record.{Fits, dateBits, recordBits, noRecord}
 use Rattle.sign.specs.Extend.{extendOf}
 use Rattle.reader.specs.declared.Cursor.{Cursor}
-use Rattle.reader.specs.Cursor.{place, bitsLeft, cursorRefusal}
+use Rattle.reader.specs.Cursor.{place, stop, bitsLeft, cursorRefusal}
 use Rattle.reader.specs.Answers as R
 use Rattle.reader.specs.Answers.{moved}
 use Rattle.writer.specs.declared.Writer.{Writer}
@@ -80,6 +80,7 @@ RefusedReads =
     × ((out : List ℕ) → (R.bytesOf o s c (length out) .refusal ≡ done → ⊥) → (R.bytesOf o s c (length out) .cursor ≡ c) × (R.bytesOut o s c out ≡ out))
     × ((n : ℕ) → (R.consumeOf o s c n .refusal ≡ done → ⊥) → R.consumeOf o s c n .cursor ≡ c)
     × ((R.refillOf o s c .refusal ≡ done → ⊥) → R.refillOf o s c .cursor ≡ c)
+    × ((e : ℕ) → (R.lowerOf o s c e .refusal ≡ done → ⊥) → R.lowerOf o s c e .cursor ≡ c)
 
 -- into an output
 abbrev pub RefusedWrites : Type 0
@@ -115,7 +116,7 @@ RefusedOutputs =
 abbrev pub RefusedInPlace : Type 0
 RefusedInPlace =
     (o : Order) (s : List ℕ) (c d : Cursor) (r : ℕ) → (r ≡ done → ⊥)
-    → ((n : ℕ) → moved r d ≡ R.consumeOf o s c n → d ≡ c) × (moved r d ≡ R.refillOf o s c → d ≡ c)
+    → ((n : ℕ) → moved r d ≡ R.consumeOf o s c n → d ≡ c) × (moved r d ≡ R.refillOf o s c → d ≡ c) × ((e : ℕ) → moved r d ≡ R.lowerOf o s c e → d ≡ c)
 
 -- ---- the writers and cursors that calls make
 
@@ -150,16 +151,17 @@ FieldsRead =
     ((r .refusal ≡ tooFew) ↔ (bitsLeft s c < w))
     × (w ≤ bitsLeft s c → (r .refusal ≡ done) × (r .value ≡ field o s (place c) w) × (place (r .cursor) ≡ place c + w) × (bitsLeft s (r .cursor) ≡ bitsLeft s c - w) × (cursorRefusal o s (r .cursor) ≡ done))
 
--- what is left behind the place lies within the slice
+-- what is left goes from the place up to the end, which lies within the slice
 abbrev pub LeftInside : Type 0
-LeftInside = (o : Order) (s : List ℕ) (c : Cursor) → cursorRefusal o s c ≡ done → place c + bitsLeft s c ≤ 8 * length s
+LeftInside =
+    (o : Order) (s : List ℕ) (c : Cursor) → cursorRefusal o s c ≡ done → (place c + bitsLeft s c ≡ stop s c) × (stop s c ≤ 8 * length s)
 
--- a fresh cursor is at place 0, and belongs to every slice within the limit
+-- a fresh cursor of a slice within the limit is at place 0, stops at the slice's end, and belongs
 abbrev pub FreshCursor : Type 0
 FreshCursor =
     (o : Order) (s : List ℕ) → length s ≤ longest →
     let c = R.newOf s .cursor in
-    (R.newOf s .refusal ≡ done) × (cursorRefusal o s c ≡ done) × (place c ≡ 0) × (bitsLeft s c ≡ 8 * length s)
+    (R.newOf s .refusal ≡ done) × (cursorRefusal o s c ≡ done) × (place c ≡ 0) × (stop s c ≡ 8 * length s) × (bitsLeft s c ≡ 8 * length s)
 
 -- bytes are fields of eight bits from the place on, and the place moves by them
 abbrev pub BytesRead : Type 0
@@ -179,12 +181,16 @@ ManualReads =
     ((n : ℕ) → R.peekOf o s c n .refusal ≡ done → (R.peekOf o s c n .value ≡ field o s (place c) n) × (place (R.consumeOf o s c n .cursor) ≡ place c + n))
     × (R.refillOf o s c .refusal ≡ done → place (R.refillOf o s c .cursor) ≡ place c)
 
--- the remainder is the slice from the first byte that starts at the place or behind it; the partial bits are the field up to there
+-- where the end is a multiple of 8, the remainder is the slice from the first byte that starts at the place or behind it up to the end, and
+-- the partial bits are the field up to there; else it is refused with 14, and nothing is told
 abbrev pub RemainderWhere : Type 0
 RemainderWhere =
     (o : Order) (s : List ℕ) (c : Cursor) → cursorRefusal o s c ≡ done →
     let at = (place c + 7) / 8 in
-    (R.startOf o s c ≡ at) × (R.remainderOf o s c ≡ drop at s) × (R.partialOf o s c ≡ record { refusal = done; «partial_bits» = 8 * at - place c; «partial_byte» = field o s (place c) (8 * at - place c) })
+    (stop s c % 8 ≡ 0 →
+    (R.startOf o s c ≡ at) × (R.remainderOf o s c ≡ slice at (stop s c / 8) s) × (R.partialOf o s c ≡ record { refusal = done; «partial_bits» = 8 * at - place c; «partial_byte» = field o s (place c) (8 * at - place c) }))
+    × ((stop s c % 8 ≡ 0 → ⊥) →
+    (R.startOf o s c ≡ 0) × (R.remainderOf o s c ≡ []) × (R.partialOf o s c ≡ record { refusal = endInByte; «partial_bits» = 0; «partial_byte» = 0 }))
 
 -- sign extension gives the signed meaning at every width from 0 to 64, and the bits come back from it
 abbrev pub SignExtends : Type 0

@@ -46,14 +46,19 @@ Only o p = p ≡ o
 abbrev pub Either : Order → Type 0
 Either p = Unit {0}
 
--- the cursors of a slice s, by calls in the orders that `In` holds of; a fixed width, a bit, a float and a signed read answer the cursor of
--- `read-bits` at their width, and on a borrowed cursor `consume` and `refill-lookahead` leave the one that they answer
+-- the cursors that a call in order o, done or refused, answers from a cursor c of a slice s; a fixed width, a bit, a float and a signed read
+-- answer that of `read-bits` at their width, and on a borrowed cursor a call leaves the one that it answers. `lower_end` stands below
+pub data Called (s : List ℕ) (c : Cursor) : Order → Cursor → Type 0 where
+  read-bits : {o : Order} (w : ℕ) → Called s c o (R.readOf o s c w .cursor)
+  read-bytes : {o : Order} (n : ℕ) → Called s c o (R.bytesOf o s c n .cursor)
+  consume : {o : Order} (n : ℕ) → Called s c o (R.consumeOf o s c n .cursor)
+  refill-lookahead : {o : Order} → Called s c o (R.refillOf o s c .cursor)
+  read-typed : {o : Order} (k : Kind) (w : ℕ) → Called s c o (cursorOf (T.readOf o s c k w))
+  run : {o : Order} (p : List ℕ) (room : ℕ) → Called s c o (runOf o s c p room .cursor)
+  read-record : Called s c Big (S.readOf s c .cursor)
+
+-- the cursors of a slice s, by calls in the orders that `In` holds of
 pub data ReachedCursor (In : Order → Type 0) (s : List ℕ) : Cursor → Type 0 where
   new : ReachedCursor In s (R.newOf s .cursor)
-  read-bits : {c : Cursor} {o : Order} → ReachedCursor In s c → In o → (w : ℕ) → ReachedCursor In s (R.readOf o s c w .cursor)
-  read-bytes : {c : Cursor} {o : Order} → ReachedCursor In s c → In o → (n : ℕ) → ReachedCursor In s (R.bytesOf o s c n .cursor)
-  consume : {c : Cursor} {o : Order} → ReachedCursor In s c → In o → (n : ℕ) → ReachedCursor In s (R.consumeOf o s c n .cursor)
-  refill-lookahead : {c : Cursor} {o : Order} → ReachedCursor In s c → In o → ReachedCursor In s (R.refillOf o s c .cursor)
-  read-typed : {c : Cursor} {o : Order} → ReachedCursor In s c → In o → (k : Kind) (w : ℕ) → ReachedCursor In s (cursorOf (T.readOf o s c k w))
-  run : {c : Cursor} {o : Order} → ReachedCursor In s c → In o → (p : List ℕ) (room : ℕ) → ReachedCursor In s (runOf o s c p room .cursor)
-  read-record : {c : Cursor} → ReachedCursor In s c → In Big → ReachedCursor In s (S.readOf s c .cursor)
+  next : {c d : Cursor} {o : Order} → ReachedCursor In s c → In o → Called s c o d → ReachedCursor In s d
+  lower-end : {c : Cursor} {o : Order} → ReachedCursor In s c → In o → (e : ℕ) → ReachedCursor In s (R.lowerOf o s c e .cursor)

@@ -14,22 +14,6 @@ pub fn fetched(unfetched: usize, lookahead: u32) -> usize
     if unfetched < most { unfetched } else { most }
 }
 
-// How many bits are left.
-pub fn bits_left(len: usize, k: Counts) -> usize
-    requires { ⌜ Within len k × (len ≤ longest) ⌝ }
-    ensures { λ r. ⌜ r ≡ bitsLeft len k ⌝ }
-{
-    8 * (len - k.offset) + k.lookahead as usize
-}
-
-// How many whole bytes are left.
-pub fn bytes_left(len: usize, k: Counts) -> usize
-    requires { ⌜ Within len k × (len ≤ longest) ⌝ }
-    ensures { λ r. ⌜ r ≡ bytesLeft len k ⌝ }
-{
-    len - k.offset + (k.lookahead / 8) as usize
-}
-
 // The counts after a refill.
 pub fn after_refill(len: usize, k: Counts) -> Counts
     requires { ⌜ Within len k ⌝ }

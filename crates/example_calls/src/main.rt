@@ -1,5 +1,5 @@
-// The example of every public call, as its comment has it: what is expected is worked out by hand, and each line written says whether the
-// call answered so.
+// The example of every public call, as its comment has it, and a message that wraps a strip: what is expected is worked out by hand, and
+// each line written says whether the call answered so. `start` is a fresh cursor of the slice that is read, `blank` a fresh writer.
 use bits::Order;
 use reader::Cursor;
 use record::Record;
@@ -17,6 +17,7 @@ fn main() {
     bytes();
     manual();
     remainders();
+    ends();
     borrowed();
     remainder_records();
     writes();
@@ -27,6 +28,7 @@ fn main() {
     layouts();
     records();
     lists();
+    wrapped();
     vetted();
     tables();
     lines();
@@ -45,11 +47,11 @@ fn expect(call: &[u8], holds: bool) {
     }
 }
 
-// A cursor at the start of any slice.
-fn start() -> Cursor {
-    let made = Cursor::new(b"");
-    let fresh = made.cursor;
-    fresh
+// A cursor at the start of a slice.
+fn fresh(src: &[u8]) -> Cursor {
+    let made = Cursor::new(src);
+    let cursor = made.cursor;
+    cursor
 }
 
 // A writer at the start of any output.
@@ -60,51 +62,58 @@ fn blank() -> Writer {
 }
 
 fn reads() {
-    let start = start();
-
     let made = Cursor::new(b"\x5a\xff");
     expect(b"Cursor::new", made.refusal == 0);
 
-    let far = Cursor::from_parts(9, 0, 0);
+    let far = Cursor::from_parts(9, 0, 0, 72);
     let got = far.read_u8(Order::Big, b"\x5a");
     expect(b"Cursor::from_parts", got.refusal == 2);
 
+    let start = fresh(b"\x80");
     let got = start.read_bit(Order::Big, b"\x80");
     expect(b"read_bit", got.value);
 
+    let start = fresh(b"\x5a");
     let got = start.read_u8(Order::Big, b"\x5a");
     expect(b"read_u8", got.value == 0x5a);
 
+    let start = fresh(b"\xda");
     let got = start.read_i8(Order::Big, b"\xda");
     expect(b"read_i8", got.value == -38);
 
+    let start = fresh(b"\x01\x02");
     let got = start.read_u16(Order::Little, b"\x01\x02");
     expect(b"read_u16", got.value == 0x0201);
 
+    let start = fresh(b"\xfe\xff");
     let got = start.read_i16(Order::Little, b"\xfe\xff");
     expect(b"read_i16", got.value == -2);
 
+    let start = fresh(b"\x00\x01\x02\x03");
     let got = start.read_u32(Order::Big, b"\x00\x01\x02\x03");
     expect(b"read_u32", got.value == 0x0001_0203);
 
+    let start = fresh(b"\xff\xff\xff\xfe");
     let got = start.read_i32(Order::Big, b"\xff\xff\xff\xfe");
     expect(b"read_i32", got.value == -2);
 }
 
 fn wide_reads() {
-    let start = start();
-
+    let start = fresh(b"\x3f\x80\x00\x00");
     let got = start.read_f32(Order::Big, b"\x3f\x80\x00\x00");
     let one = got.value;
     let bits = floats::bits_of_single(one);
     expect(b"read_f32", bits == 0x3f80_0000);
 
+    let start = fresh(b"\x00\x01\x02\x03\x04\x05\x06\x07");
     let got = start.read_u64(Order::Big, b"\x00\x01\x02\x03\x04\x05\x06\x07");
     expect(b"read_u64", got.value == 0x0001_0203_0405_0607);
 
+    let start = fresh(b"\xfe\xff\xff\xff\xff\xff\xff\xff");
     let got = start.read_i64(Order::Little, b"\xfe\xff\xff\xff\xff\xff\xff\xff");
     expect(b"read_i64", got.value == -2);
 
+    let start = fresh(b"\x3f\xf0\x00\x00\x00\x00\x00\x00");
     let got = start.read_f64(Order::Big, b"\x3f\xf0\x00\x00\x00\x00\x00\x00");
     let one = got.value;
     let bits = floats::bits_of_double(one);
@@ -112,17 +121,17 @@ fn wide_reads() {
 }
 
 fn fields() {
-    let start = start();
-
+    let start = fresh(b"\xa5");
     let got = start.read_bits(Order::Big, b"\xa5", 3);
     expect(b"read_bits", got.value == 5);
 
+    let start = fresh(b"\x8f");
     let got = start.read_signed_bits(Order::Big, b"\x8f", 4);
     expect(b"read_signed_bits", got.value == -8);
 }
 
 fn counts() {
-    let start = start();
+    let start = fresh(b"\x5a\xff");
 
     let left = start.bytes_remaining(Order::Big, b"\x5a\xff");
     expect(b"bytes_remaining", left.value == 2);
@@ -136,15 +145,17 @@ fn counts() {
     let more = start.has_bits_remaining(Order::Big, b"\x5a\xff", 16);
     expect(b"has_bits_remaining", more.value);
 
+    let start = fresh(b"");
     let none = start.is_empty(Order::Big, b"");
     expect(b"is_empty", none.value);
 
+    let start = fresh(b"\x5a\xff");
     let whole = start.byte_aligned(Order::Big, b"\x5a\xff");
     expect(b"byte_aligned", whole.value);
 }
 
 fn bytes() {
-    let start = start();
+    let start = fresh(b"\x01\x02\x03");
     let mut two = [0u8; 2];
 
     let got = start.read_bytes(Order::Big, b"\x01\x02\x03", &mut two);
@@ -153,7 +164,7 @@ fn bytes() {
 }
 
 fn manual() {
-    let start = start();
+    let start = fresh(b"\xa5\x01");
 
     let moved = start.refill_lookahead(Order::Big, b"\xa5\x01");
     expect(b"refill_lookahead", moved.refusal == 0);
@@ -170,7 +181,7 @@ fn manual() {
 }
 
 fn remainders() {
-    let start = start();
+    let start = fresh(b"\x5a\xff");
     let three = start.read_bits(Order::Big, b"\x5a\xff", 3);
     let behind = three.cursor;
 
@@ -181,8 +192,17 @@ fn remainders() {
     expect(b"partial", before.partial_byte == 0x1a);
 }
 
+fn ends() {
+    let start = fresh(b"\x5a\xff");
+
+    let moved = start.lower_end(Order::Big, b"\x5a\xff", 8);
+    let cut = moved.cursor;
+    let left = cut.bits_remaining(Order::Big, b"\x5a\xff");
+    expect(b"lower_end", left.value == 8);
+}
+
 fn borrowed() {
-    let start = start();
+    let start = fresh(b"\xa5\x01");
 
     let moved = lent::refilled(start, Order::Big, b"\xa5\x01");
     expect(b"inplace::refill_lookahead", moved.refusal == 0);
@@ -193,10 +213,13 @@ fn borrowed() {
 
     let moved = lent::consumed(full, Order::Big, b"\xa5\x01", 17);
     expect(b"inplace::consume", moved.refusal == 10);
+
+    let moved = lent::lowered(start, Order::Big, b"\xa5\x01", 17);
+    expect(b"inplace::lower_end", moved.refusal == 13);
 }
 
 fn remainder_records() {
-    let start = start();
+    let start = fresh(b"\x5a\xff");
     let three = start.read_bits(Order::Big, b"\x5a\xff", 3);
     let behind = three.cursor;
 
@@ -308,7 +331,7 @@ fn floats_and_signs() {
 }
 
 fn typed_values() {
-    let start = start();
+    let start = fresh(b"\xfe");
     let blank = blank();
     let mut out = [0u8; 8];
 
@@ -340,7 +363,7 @@ fn bits_read(read: TypedRead) -> u64 {
 }
 
 fn layouts() {
-    let start = start();
+    let start = fresh(b"\xbf");
     let mut out = [0u8; 8];
     let mut results = [0u64; 2];
 
@@ -367,7 +390,6 @@ fn estimate() -> Record {
 }
 
 fn records() {
-    let start = start();
     let blank = blank();
     let mut out = [0u8; 12];
     let found = estimate();
@@ -377,6 +399,7 @@ fn records() {
     let last = wrote.writer;
     let _ended = last.flush(Order::Big, &mut out);
 
+    let start = fresh(&out);
     let read = strip::read_record(start, &out);
     let found = read.found;
     expect(b"read_record", found.magnitude == -1440);
@@ -391,6 +414,38 @@ fn lists() {
 
     let read = strip::read_strip(&out, &mut list);
     expect(b"read_strip", read.tail_good);
+}
+
+// A message of a header byte, a strip of 12 bytes (the worked record of docs/FORMAT.md) and words behind it.
+fn wrapped() {
+    let message = *b"\x7e\x00\x00\x5e\x52\x77\x48\x84\x5f\x4c\x00\x61\x80dome 4, done";
+    let start = fresh(&message);
+
+    // The header, and then the end put behind the strip: at bit 8 + 8 * 12.
+    let header = start.read_u8(Order::Big, &message);
+    expect(b"wrapped strip", header.value == 0x7e);
+    let within = header.cursor;
+    let moved = within.lower_end(Order::Big, &message, 104);
+    let cut = moved.cursor;
+
+    // Records, until 9 is answered: without the end the words would be the second one.
+    let first = strip::read_record(cut, &message);
+    let found = first.found;
+    expect(b"wrapped strip", found.date == 246_052_364_817);
+    let behind = first.cursor;
+    let second = strip::read_record(behind, &message);
+    expect(b"wrapped strip", second.refusal == 9);
+
+    // The rest up to the end: no whole byte, and the tail's seven bits, which are 0.
+    let rest = behind.remainder(Order::Big, &message);
+    expect(b"wrapped strip", rest.len() == 0);
+    let tail = behind.partial(Order::Big, &message);
+    expect(b"wrapped strip", tail.partial_bits == 7);
+    expect(b"wrapped strip", tail.partial_byte == 0);
+
+    // The words: the message from byte 104 / 8 on.
+    let words = &message[13..];
+    expect(b"wrapped strip", words[0] == b'd');
 }
 
 fn vetted() {

@@ -1,2 +1,4 @@
 pub mod Held
+pub mod Shapes
+pub mod Stores
 pub mod Theorems

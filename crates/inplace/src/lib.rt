@@ -1,10 +1,10 @@
-// The manual calls of a caller's own cursor, which is changed where it stands. Each is the reader's call by value: a refused call
-// stores the cursor that came.
+// The manual calls and `lower_end` of a caller's own cursor, which is changed where it stands. Each is the reader's call by value: a
+// refused call stores the cursor that came.
 use bits::Order;
 use reader::Cursor;
 use reader::Peeked;
 ghost use mathlib.Core.Path.{_≡_};
-ghost use Rattle.reader.specs.Answers.{peekOf, consumeOf, refillOf, moved};
+ghost use Rattle.reader.specs.Answers.{peekOf, consumeOf, refillOf, lowerOf, moved};
 
 // The first bits of the lookahead, which stay. Refusals 1, 2 and 10.
 //     let seen = lent::peeked(full, Order::Big, b"\xa5\x01", 4);
@@ -36,6 +36,18 @@ pub fn refill_lookahead(cursor: &mut Cursor, order: Order, src: &[u8]) -> u32
 {
     let here = *cursor;
     let moved = here.refill_lookahead(order, src);
+    *cursor = moved.cursor;
+    moved.refusal
+}
+
+// Lowers the end, behind which nothing is read. The answer is the refusal number: 1, 2 or 13, else 0.
+//     let moved = lent::lowered(start, Order::Big, b"\xa5\x01", 17);
+//     expect(b"inplace::lower_end", moved.refusal == 13);
+pub fn lower_end(cursor: &mut Cursor, order: Order, src: &[u8], end: usize) -> u32
+    ensures { λ r. ⌜ moved r (now (cursor .exit)) ≡ lowerOf order (now (src .entry)) (now (cursor .entry)) end ⌝ }
+{
+    let here = *cursor;
+    let moved = here.lower_end(order, src, end);
     *cursor = moved.cursor;
     moved.refusal
 }

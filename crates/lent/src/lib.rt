@@ -5,7 +5,7 @@ use reader::Moved;
 use reader::Peeked;
 ghost use mathlib.Core.Path.{_≡_};
 ghost use lib.ListN.{length};
-ghost use Rattle.reader.specs.Answers.{peekOf, consumeOf, refillOf, remainderOf, partialOf};
+ghost use Rattle.reader.specs.Answers.{peekOf, consumeOf, refillOf, lowerOf, remainderOf, partialOf};
 
 // What is left behind a cursor: the bits before the first whole byte, how many and as a number, and how many whole bytes follow.
 pub struct Rest {
@@ -39,6 +39,18 @@ pub fn refilled(cursor: Cursor, order: Order, src: &[u8]) -> Moved
 {
     let mut own = cursor;
     let refusal = inplace::refill_lookahead(&mut own, order, src);
+    Moved {
+        refusal: refusal,
+        cursor: own,
+    }
+}
+
+// `inplace::lower_end` of a cursor that is lent.
+pub fn lowered(cursor: Cursor, order: Order, src: &[u8], end: usize) -> Moved
+    ensures { λ r. ⌜ r ≡ lowerOf order (now (src .entry)) cursor end ⌝ }
+{
+    let mut own = cursor;
+    let refusal = inplace::lower_end(&mut own, order, src, end);
     Moved {
         refusal: refusal,
         cursor: own,

@@ -1,16 +1,17 @@
 // The calls by number.
 use bits::Order;
+use bits::refusals;
 use reader::Cursor;
 use vetting::Verdict;
 use writer::Writer;
 
-// The calls that read the slice, by number: 0 to 11 the cursor's, 12 to 19 the others, from 20 on those of rows, and the verdict.
+// The calls that read the slice, by number: 0 to 12 the cursor's, 13 to 20 the others, from 21 on those of rows, and the verdict.
 #[no_mangle]
 pub extern "C" fn limits_read(call: u32, src: &[u8]) -> u32 {
-    if call < 12 {
+    if call < 13 {
         return read_call(call, src);
     }
-    if call < 20 {
+    if call < 21 {
         return other_call(call, src);
     }
     row_call(call, src)
@@ -25,7 +26,7 @@ pub extern "C" fn limits_write(call: u32, out: &mut [u8]) -> u32 {
     fill_call(call, out)
 }
 
-// The cursor's methods, on a fresh one.
+// The cursor's methods, on a fresh one; the end that is asked for is that of the longest slice.
 fn read_call(call: u32, src: &[u8]) -> u32 {
     let fresh = Cursor::new(src);
     let c = fresh.cursor;
@@ -41,6 +42,7 @@ fn read_call(call: u32, src: &[u8]) -> u32 {
         8 => c.consume(Order::Big, src, 0).refusal,
         9 => c.refill_lookahead(Order::Big, src).refusal,
         10 => c.partial(Order::Big, src).refusal,
+        11 => c.lower_end(Order::Big, src, 8 * refusals::LONGEST).refusal,
         _ => {
             let mut buf = [0u8; 4];
             c.read_bytes(Order::Big, src, &mut buf).refusal
@@ -51,25 +53,28 @@ fn read_call(call: u32, src: &[u8]) -> u32 {
 // Bytes to write, a layout, a plan, a line, a record's and a strip's source.
 fn other_call(call: u32, src: &[u8]) -> u32 {
     let mut small = [0u8; 16];
-    let c = Cursor::from_parts(0, 0, 0);
+    let fresh = Cursor::new(src);
+    let c = fresh.cursor;
     let w = Writer {
         written: 0,
         held: 0,
         number: 0,
     };
     match call {
-        12 => w.write_bytes(Order::Big, &mut small, src).refusal,
-        13 => layout::compile(src, &mut small).refusal,
-        14 => layout::check(src),
-        15 => line::read_line(src).refusal,
-        16 => strip::read_record(c, src).refusal,
-        17 => {
+        13 => w.write_bytes(Order::Big, &mut small, src).refusal,
+        14 => layout::compile(src, &mut small).refusal,
+        15 => layout::check(src),
+        16 => line::read_line(src).refusal,
+        17 => strip::read_record(c, src).refusal,
+        18 => {
             let mut numbers = [0u64; 6];
             strip::read_strip(src, &mut numbers).refusal
         }
-        18 => {
+        19 => {
             let mut results = [0u64; 6];
-            plan::run(c, Order::Big, &small, src, &mut results).refusal
+            let made = Cursor::new(&small);
+            let short = made.cursor;
+            plan::run(short, Order::Big, &small, src, &mut results).refusal
         }
         _ => {
             let mut results = [0u64; 6];
@@ -82,9 +87,9 @@ fn other_call(call: u32, src: &[u8]) -> u32 {
 fn row_call(call: u32, src: &[u8]) -> u32 {
     let mut small = [0u8; 16];
     match call {
-        20 => rows::read_row(src).refusal,
-        21 => rows::strip_to_rows(src, &mut small).refusal,
-        22 => rows::rows_to_strip(src, &mut small).refusal,
+        21 => rows::read_row(src).refusal,
+        22 => rows::strip_to_rows(src, &mut small).refusal,
+        23 => rows::rows_to_strip(src, &mut small).refusal,
         _ => refusal_in(vetting::vet_strip(src)),
     }
 }
@@ -122,7 +127,8 @@ fn fill_call(call: u32, out: &mut [u8]) -> u32 {
     let r = record::inner::no_record();
     match call {
         8 => {
-            let c = Cursor::from_parts(0, 0, 0);
+            let fresh = Cursor::new(b"ab");
+            let c = fresh.cursor;
             c.read_bytes(Order::Big, b"ab", out).refusal
         }
         9 => layout::compile(b"", out).refusal,

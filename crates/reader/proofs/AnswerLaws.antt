@@ -1,11 +1,11 @@
 -- Laws of answers: what a call that is not refused may rely on, and what a read gives either way.
-use Prim.Native.Nat.{ℕ, zero, suc, _-_, _*_, _%_, _^_, _<_, _≤_}
+use Prim.Native.Nat.{ℕ, zero, suc, _+_, _-_, _*_, _%_, _^_, _<_, _≤_}
 use mathlib.Core.Path.{_≡_, refl, sym, ap, _∙_, subst}
 use mathlib.Core.Bool.{Bool, true, false}
 use mathlib.Core.List.{List, []}
 use native.Mathlib.Omega.{arith}
-use lib.ListN.{length, take, drop, length-drop}
-use lib.Seq.{take-all}
+use lib.ListN.{length, take, drop}
+use lib.Seq.{length-take-le, take-add, drop-at, slice}
 use lib.Dec.{eqb}
 use lib.IntN.{ℤ, pos}
 use lib.Pow.{pow-pos}
@@ -14,7 +14,7 @@ use mir.Syntax.{Width, w64}
 use mir.Val.{SFits, bits, toZ, ofZ}
 use Rattle.bits.specs.declared.Order.{Order}
 use Rattle.bits.specs.Refusals.{done}
-use Rattle.bits.proofs.RefusalLaws.{passed, at-most}
+use Rattle.bits.proofs.RefusalLaws.{passed, at-most, test-held}
 use Rattle.bits.proofs.FieldLaws.{field-lt}
 use Rattle.bits.specs.Signed.{signed}
 use Rattle.counts.proofs.BytesLaws.{bytes-none as none-counts}
@@ -23,9 +23,9 @@ use Rattle.sign.proofs.SignedLaws.{signed-low, narrowed}
 use Rattle.floats.proofs.FloatLaws.{cond-either}
 use Rattle.reader.specs.declared.Cursor.{Cursor}
 use Rattle.reader.specs.declared.ReadU64.{ReadU64}
-use Rattle.reader.specs.Cursor.{countsIn, cursorAt, bitsLeft, bytesLeft, aheadIn, Own}
+use Rattle.reader.specs.Cursor.{countsIn, cursorAt, place, bitsLeft, bytesLeft, aheadIn, Own}
 use Rattle.reader.proofs.CursorLaws.{refusal-own, own-at}
-use Rattle.reader.specs.Answers.{readRefusal, readOf, bytesRefusal, bytesOf, bytesOut, manualRefusal}
+use Rattle.reader.specs.Answers.{readRefusal, readOf, bytesRefusal, bytesOf, bytesOut, manualRefusal, remainderRefusal, lowerRefusal}
 
 -- ---- what a call that is not refused may rely on
 
@@ -43,6 +43,16 @@ module _ (o : Order) (s : List ℕ) (c : Cursor) where
   pub bytes-granted : (n : ℕ) → bytesRefusal o s c n ≡ done → Own o s c × (n ≤ bytesLeft s c)
   unfolding bytesRefusal
   bytes-granted n z = let (_, (own, enough)) = passed _ z in (refusal-own own, at-most _ _ _ enough)
+
+  pub remainder-granted : remainderRefusal o s c ≡ done → Own o s c × (c .end % 8 ≡ 0)
+  unfolding remainderRefusal
+  remainder-granted z = let (own, whole) = passed _ z in (refusal-own own, eqb-true _ _ (test-held _ _ whole))
+
+  pub lower-granted : (e : ℕ) → lowerRefusal o s c e ≡ done → Own o s c × (e ≤ c .end) × (place c ≤ e)
+  unfolding lowerRefusal
+  lower-granted e z =
+      let (own, (low, reached)) = passed _ z in
+      (refusal-own own, at-most _ _ _ low, at-most _ _ _ reached)
 
 -- ---- reads, refused or not
 
@@ -109,9 +119,12 @@ module _ (o : Order) (s : List ℕ) (c : Cursor) where
 
 -- ---- parts and places
 
--- a part to the end of a slice
-pub to-end : (s : List ℕ) (at : ℕ) → take (length s - at) (drop at s) ≡ drop at s
-to-end s at = take-all (length s - at) (drop at s) (omega (arith, length-drop at s))
+-- a part by its length, as the slice between two bytes
+pub part-slice : (s : List ℕ) (at to : ℕ) → at ≤ to → to ≤ length s → take (to - at) (drop at s) ≡ slice at to s
+part-slice s at to a b =
+    let n : at + (to - at) ≡ to = omega arith in
+    sym (drop-at (take at s) (take (to - at) (drop at s)) at (length-take-le at s (omega arith)))
+    ∙ ap (drop at) (sym (take-add at (to - at) s) ∙ ap (λ (k : ℕ). take k s) n)
 
 -- the place is at the start of a byte if the lookahead is whole bytes
 pub aligned : (q r : ℕ) → r ≤ 8 * q → eqb (r % 8) 0 ≡ eqb ((8 * q - r) % 8) 0

@@ -1,13 +1,13 @@
--- Laws of reading for other crates: what is read, where the cursor then is, that it still belongs, and that reading is by place alone.
-use Prim.Native.Nat.{ℕ, _+_, _-_, _*_, _<_, _≤_}
+-- Laws of reading for other crates: what is read, where the cursor then is, and that it still belongs.
+use Prim.Native.Nat.{ℕ, _+_, _-_, _*_, _/_, _<_, _≤_}
 use mathlib.Core.Path.{_≡_, refl, sym, ap, _∙_, subst}
-use mathlib.Core.Bool.{Bool, true, false}
+use mathlib.Core.Bool.{true, _&&_}
 use mathlib.Core.List.{List}
 use native.Mathlib.Nat.{le-trans}
 use native.Mathlib.Omega.{arith}
 use lib.ListN.{length, getD}
-use lib.Dec.{eqb}
-use borrow.Author.Tests.{leb-true, lt-ltb, le-ltb, eqb-true, eqb-false}
+use lib.Dec.{leb, eqb}
+use borrow.Author.Tests.{leb-true, le-leb, lt-ltb, le-ltb, eqb-true}
 use Rattle.bits.specs.declared.Order.{Order}
 use Rattle.bits.specs.Refusals.{longest, done, tooFew, orElse, firstRefusal}
 use Rattle.bits.proofs.TestLaws.{both}
@@ -27,7 +27,7 @@ use Rattle.octets.specs.Octets.{octets}
 use Rattle.octets.proofs.OctetsLaws.{getD-octets}
 use Rattle.reader.specs.declared.Cursor.{Cursor}
 use Rattle.reader.specs.declared.ReadU64.{ReadU64}
-use Rattle.reader.specs.Cursor.{countsIn, cursorAt, place, stop, bitsLeft, cursorRefusal, isInside, Own}
+use Rattle.reader.specs.Cursor.{countsIn, cursorAt, place, stop, bitsLeft, cursorRefusal, insideEnd, isInside, Own}
 use Rattle.reader.proofs.CursorLaws.{left-stop, left-le, bytes-bits, bytes-le, ahead-left, ahead-held, refusal-own, own-done, at-place, at-stop, at-own}
 use Rattle.reader.specs.Answers.{newOf, readRefusal, readOf, bytesRefusal, bytesOf, bytesOut, manualRefusal, peekOf, consumeOf, refillOf}
 use Rattle.reader.proofs.AnswerLaws.{read-granted, manual-granted, bytes-granted}
@@ -65,19 +65,30 @@ module _ (s : List ℕ) (short : length s ≤ longest) where
   pub fresh-belongs : (o : Order) → cursorRefusal o s ((newOf s) .cursor) ≡ done
   unfolding newOf registerOf held field
   fresh-belongs o =
-      own-done
+      rw (le-ltb longest (length s) short)
+      (own-done
       (record {
-        fits = record { short = short; within = record { fetched = omega arith; small = omega arith; behind = omega arith } };
+        fits =
+            record {
+              short = short;
+              within = record { fetched = omega arith; small = omega arith; behind = omega arith };
+              reached = omega arith;
+              stops = omega arith;
+            };
         holds = sym (join-zeros o 0 64);
-      })
+      }))
 
 pub fresh-place : (s : List ℕ) → place ((newOf s) .cursor) ≡ 0
 unfolding newOf
 fresh-place s = refl
 
-pub fresh-left : (s : List ℕ) → bitsLeft s ((newOf s) .cursor) ≡ 8 * length s
+pub fresh-stop : (s : List ℕ) → length s ≤ longest → stop s ((newOf s) .cursor) ≡ 8 * length s
+unfolding newOf stop
+fresh-stop s short = rw (le-ltb longest (length s) short) refl
+
+pub fresh-left : (s : List ℕ) → length s ≤ longest → bitsLeft s ((newOf s) .cursor) ≡ 8 * length s
 unfolding newOf bitsLeft
-fresh-left s = omega arith
+fresh-left s short = rw (le-ltb longest (length s) short) (omega arith)
 
 -- ---- fields
 
@@ -120,17 +131,38 @@ module _ (o : Order) (s : List ℕ) (c : Cursor) (w : ℕ) where
     pub read-left : bitsLeft s ((readOf o s c w) .cursor) ≡ bitsLeft s c - w
     read-left = read-advanced .left
 
+-- what it says of counts that they are inside an end
+pub end-is : (len end : ℕ) (k : Counts) → insideEnd len end k ≡ true →
+    (inside len k ≡ true) × (8 * (k .offset + 8) ≤ end) × (end ≤ 8 * len)
+unfolding insideEnd inside
+end-is len end k e =
+    let (short, e₁) = both {a = leb len longest} {b = leb end (8 * len) && inside (end / 8) k} e in
+    let (stops, before) = both {a = leb end (8 * len)} {b = inside (end / 8) k} e₁ in
+    let (_, more, less, small) = inside-is (end / 8) k before in
+    let l : end ≤ 8 * len = leb-true _ _ stops in
+    let within : k .offset + 8 ≤ len = omega (arith, more, l) in
+    (rw (short, le-leb _ _ within, le-leb _ _ less, le-leb _ _ small), omega (arith, more), l)
+
 -- a read that needs no other test is done
 pub inside-done : (o : Order) (s : List ℕ) (c : Cursor) (w : ℕ) → isInside o s c w ≡ true →
     Own o s c × (inside (length s) (countsIn c) ≡ true) × (w ≤ 56) × (readRefusal o s c w ≡ done)
 unfolding isInside bitsLeft
 inside-done o s c w e =
-    let (narrow, e₁) = both e in
-    let (within, same) = both e₁ in
-    let (short, more, less, small) = inside-is (length s) (countsIn c) within in
+    let k = countsIn c in
+    let own = eqb (c .register) (registerOf o s k) in
+    let (narrow, e₁) = both {a = leb w 56} {b = insideEnd (length s) (c .end) k && own} e in
+    let (room, same) = both {a = insideEnd (length s) (c .end) k} {b = own} e₁ in
+    let (within, more, stops) = end-is (length s) (c .end) (countsIn c) room in
+    let (short, _, less, small) = inside-is (length s) (countsIn c) within in
     let h : Own o s c =
     record {
-      fits = record { short = short; within = record { fetched = omega (arith, more); small = small; behind = omega (arith, less, small) } };
+      fits =
+          record {
+            short = short;
+            within = record { fetched = omega (arith, more, stops); small = small; behind = omega (arith, less, small) };
+            reached = omega (arith, more);
+            stops = stops;
+          };
       holds = eqb-true _ _ same;
     } in
     let a = leb-true _ _ narrow in
@@ -184,47 +216,6 @@ module _ (o : Order) (s : List ℕ) (c : Cursor) (w : ℕ) (a : 57 ≤ w) (e : r
       let v = ap (λ (q : ℕ). join o 56 (w - 56) (field o s (place c) 56) (field o s q (w - 56))) (rest-advanced .ahead) ∙ sym (field-cut o s (place c) 56 w (omega arith)) in
       let k = wide-again (h .fits .within) w a b enough in
       (λ i. record { refusal = done; value = v i; cursor = cursorAt o s c (k i) }) ∙ sym (read-done o s c w e)
-
--- ---- by place alone
-
--- two answers with one value, and their cursors at one place
-abbrev Agree : ReadU64 → ReadU64 → Type 0
-Agree x y = (x .value ≡ y .value) × (place (x .cursor) ≡ place (y .cursor))
-
--- two cursors of a slice at one place
-module _ (o : Order) (s : List ℕ) (c d : Cursor) (hc : cursorRefusal o s c ≡ done) (hd : cursorRefusal o s d ≡ done) (same : place c ≡ place d) (one : stop s c ≡ stop s d) where
-  pub by-place-left : bitsLeft s c ≡ bitsLeft s d
-  by-place-left =
-      let x = left-stop (refusal-own hc .fits) in
-      let y = left-stop (refusal-own hd .fits) in
-      omega (arith, x, y, same, one)
-
-  pub by-place-refusal : (w : ℕ) → readRefusal o s c w ≡ readRefusal o s d w
-  unfolding readRefusal
-  by-place-refusal w = rw (hc, hd, by-place-left)
-
-  by-place : (w : ℕ) → Agree (readOf o s c w) (readOf o s d w)
-  by-place w = by (eqb (readRefusal o s c w) done) refl
-    where
-      by : (t : Bool) → eqb (readRefusal o s c w) done ≡ t → Agree (readOf o s c w) (readOf o s d w)
-      by true p =
-          let e = eqb-true _ _ p in
-          let f = sym (by-place-refusal w) ∙ e in (
-            read-value o s c w e ∙ ap (λ (k : ℕ). field o s k w) same ∙ sym (read-value o s d w f),
-            read-place o s c w e ∙ ap (λ (k : ℕ). k + w) same ∙ sym (read-place o s d w f),
-          )
-      by false p =
-          let e = read-refused o s c w (eqb-false _ _ p) in
-          let f = read-refused o s d w (λ z. eqb-false _ _ p (by-place-refusal w ∙ z)) in (
-            ap (λ (r : ReadU64). r .value) e ∙ sym (ap (λ (r : ReadU64). r .value) f),
-            ap (λ (r : ReadU64). place (r .cursor)) e ∙ same ∙ sym (ap (λ (r : ReadU64). place (r .cursor)) f),
-          )
-
-  pub by-place-value : (w : ℕ) → (readOf o s c w) .value ≡ (readOf o s d w) .value
-  by-place-value w = by-place w .0
-
-  pub by-place-place : (w : ℕ) → place ((readOf o s c w) .cursor) ≡ place ((readOf o s d w) .cursor)
-  by-place-place w = by-place w .1
 
 -- ---- manual mode
 

@@ -1,11 +1,12 @@
 -- What each method of a cursor answers, on every input, in the order of the methods.
-use Prim.Native.Nat.{ℕ, _-_, _/_, _%_}
+use Prim.Native.Nat.{ℕ, _-_, _*_, _/_, _%_}
 use mathlib.Core.List.{List, [], _∷_}
-use mathlib.Core.Bool.{Bool, false}
-use lib.ListN.{length, drop}
+use mathlib.Core.Bool.{Bool, false, not, cond}
+use lib.ListN.{length}
+use lib.Seq.{slice}
 use lib.Dec.{eqb, ltb}
 use Rattle.bits.specs.declared.Order.{Order}
-use Rattle.bits.specs.Refusals.{longest, done, tooLong, tooWide, tooFew, pastLookahead, _⟶_, firstRefusal, ifDone}
+use Rattle.bits.specs.Refusals.{longest, done, tooLong, tooWide, tooFew, pastLookahead, badEnd, endInByte, _⟶_, firstRefusal, ifDone}
 use Rattle.bits.specs.Field.{field}
 use Rattle.bits.specs.Signed.{signed}
 use Rattle.counts.specs.Counts.{afterRefill, afterTake, afterRead, afterBytes}
@@ -29,7 +30,7 @@ use Rattle.reader.specs.declared.Ahead.{Ahead}
 use Rattle.reader.specs.declared.Peeked.{Peeked}
 use Rattle.reader.specs.declared.Moved.{Moved}
 use Rattle.reader.specs.declared.Partial.{Partial}
-use Rattle.reader.specs.Cursor.{countsIn, cursorAt, place, bitsLeft, bytesLeft, aheadIn, cursorRefusal}
+use Rattle.reader.specs.Cursor.{countsIn, cursorAt, endingAt, place, bitsLeft, bytesLeft, aheadIn, cursorRefusal}
 
 -- ---- answers of two parts: a refusal number, and what is told, tested, seen or gone to
 
@@ -50,9 +51,11 @@ moved e c = record { refusal = e; cursor = c }
 
 -- ---- making one
 
--- a fresh cursor is all zeros, also where the slice is past the limit
+-- a fresh cursor is all zeros but for its end, the slice's; with refusal 1 that is 0 too
 unfoldable pub newOf : List ℕ → Moved
-newOf s = moved (ltb longest (length s) ⟶ tooLong) (record { offset = 0; lookahead = 0; register = 0 })
+newOf s =
+    moved (ltb longest (length s) ⟶ tooLong)
+    (record { offset = 0; lookahead = 0; register = 0; end = cond (ltb longest (length s)) 0 (8 * length s) })
 
 -- ---- fields
 
@@ -151,17 +154,35 @@ aheadOf o s c = ahead (cursorRefusal o s c) (ifDone (cursorRefusal o s c) (ahead
 
 -- ---- remainder
 
+-- 1 and 2, then 14 for an end that is not a multiple of 8
+unfoldable pub remainderRefusal : Order → List ℕ → Cursor → ℕ
+remainderRefusal o s c = firstRefusal (cursorRefusal o s c ∷ not (eqb (c .end % 8) 0) ⟶ endInByte ∷ [])
+
 -- the first whole unread byte: where the remainder starts; 0 with a refusal
 unfoldable pub startOf : Order → List ℕ → Cursor → ℕ
-startOf o s c = ifDone (cursorRefusal o s c) (c .offset - c .lookahead / 8) 0
+startOf o s c = ifDone (remainderRefusal o s c) (c .offset - c .lookahead / 8) 0
 
--- the slice from that byte on; empty with a refusal
+-- the slice from that byte on up to the end; empty with a refusal
 unfoldable pub remainderOf : Order → List ℕ → Cursor → List ℕ
-remainderOf o s c = ifDone (cursorRefusal o s c) (drop (startOf o s c) s) []
+remainderOf o s c = ifDone (remainderRefusal o s c) (slice (startOf o s c) (c .end / 8) s) []
 
 -- the bits before that byte: how many, and their value
 unfoldable pub partialOf : Order → List ℕ → Cursor → Partial
 partialOf o s c =
-    ifDone (cursorRefusal o s c)
+    ifDone (remainderRefusal o s c)
     (record { refusal = done; «partial_bits» = c .lookahead % 8; «partial_byte» = field o s (place c) (c .lookahead % 8) })
-    (record { refusal = cursorRefusal o s c; «partial_bits» = 0; «partial_byte» = 0 })
+    (record { refusal = remainderRefusal o s c; «partial_bits» = 0; «partial_byte» = 0 })
+
+-- ---- the end
+
+-- 1 and 2, then 13 for an end above the cursor's own or below its place
+unfoldable pub lowerRefusal : Order → List ℕ → Cursor → ℕ → ℕ
+lowerRefusal o s c e =
+    firstRefusal
+    (cursorRefusal o s c
+    ∷ ltb (c .end) e ⟶ badEnd
+    ∷ ltb e (place c) ⟶ badEnd
+    ∷ [])
+
+unfoldable pub lowerOf : Order → List ℕ → Cursor → ℕ → Moved
+lowerOf o s c e = moved (lowerRefusal o s c e) (ifDone (lowerRefusal o s c e) (endingAt c e) c)

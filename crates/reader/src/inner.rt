@@ -12,8 +12,8 @@ ghost use lib.ListN.{length};
 ghost use Rattle.bits.specs.Refusals.{longest, done};
 ghost use Rattle.counts.specs.Counts as C;
 ghost use Rattle.octets.specs.Octets.{octets};
-ghost use Rattle.reader.specs.Cursor.{stateIn, withState, countsIn, place, cursorAt, goneTo, bitsLeft, bytesLeft, aheadIn, stop as stop·of, cursorRefusal, isInside, Fits};
-ghost use Rattle.reader.specs.Answers.{readRefusal, readOf, bytesRefusal, manualRefusal};
+ghost use Rattle.reader.specs.Cursor.{stateIn, withState, countsIn, place, cursorAt, goneTo, endingAt, bitsLeft, bytesLeft, unfetched as unfetched·of, aheadIn, stop as stop·of, cursorRefusal, insideEnd, isInside, Fits};
+ghost use Rattle.reader.specs.Answers.{readRefusal, readOf, bytesRefusal, manualRefusal, remainderRefusal, lowerRefusal};
 
 // The state of a cursor.
 pub fn state_in(c: Cursor) -> State
@@ -34,6 +34,19 @@ pub fn with_state(c: Cursor, state: State) -> Cursor
         offset: state.offset,
         lookahead: state.lookahead,
         register: state.register,
+        end: c.end,
+    }
+}
+
+// The cursor with another end, the rest of it kept.
+pub fn ending_at(c: Cursor, end: usize) -> Cursor
+    ensures { λ r. ⌜ r ≡ endingAt c end ⌝ }
+{
+    Cursor {
+        offset: c.offset,
+        lookahead: c.lookahead,
+        register: c.register,
+        end: end,
     }
 }
 
@@ -51,7 +64,17 @@ pub fn counts_in(c: Cursor) -> Counts
 pub fn refusal(order: Order, src: &[u8], c: Cursor) -> u32
     ensures { λ r. ⌜ r ≡ cursorRefusal order (now (src .entry)) c ⌝ }
 {
-    lookahead::inner::refusal(order, src, state_in(c))
+    let own = lookahead::inner::refusal(order, src, state_in(c));
+    if own != refusals::DONE {
+        return own;
+    }
+    if c.end < 8 * c.offset - c.lookahead as usize {
+        return refusals::FOREIGN;
+    }
+    if 8 * src.len() < c.end {
+        return refusals::FOREIGN;
+    }
+    refusals::DONE
 }
 
 // The place at which reading goes on, of a cursor that belongs.
@@ -67,7 +90,7 @@ pub fn stop(src: &[u8], c: Cursor) -> usize
     requires { ⌜ Fits (now src) c ⌝ }
     ensures { λ r. ⌜ r ≡ stop·of (now (src .entry)) c ⌝ }
 {
-    8 * src.len()
+    c.end
 }
 
 // The bits left behind a cursor that belongs.
@@ -75,7 +98,7 @@ pub fn bits_left(src: &[u8], c: Cursor) -> usize
     requires { ⌜ Fits (now src) c ⌝ }
     ensures { λ r. ⌜ r ≡ bitsLeft (now (src .entry)) c ⌝ }
 {
-    counts::inner::bits_left(src.len(), counts_in(c))
+    c.end - place_of(src, c)
 }
 
 // The whole bytes left behind a cursor that belongs.
@@ -83,14 +106,26 @@ pub fn bytes_left(src: &[u8], c: Cursor) -> usize
     requires { ⌜ Fits (now src) c ⌝ }
     ensures { λ r. ⌜ r ≡ bytesLeft (now (src .entry)) c ⌝ }
 {
-    counts::inner::bytes_left(src.len(), counts_in(c))
+    bits_left(src, c) / 8
 }
 
-// The bits of lookahead of a cursor that belongs.
+// The bytes before the end of a cursor that are not yet fetched.
+pub fn unfetched(src: &[u8], c: Cursor) -> usize
+    ensures { λ r. ⌜ r ≡ unfetched·of (now (src .entry)) c ⌝ }
+{
+    let last = c.end / 8;
+    if last < c.offset { 0 } else { last - c.offset }
+}
+
+// The bits of lookahead of a cursor that belongs, as far as they are left.
 pub fn ahead(src: &[u8], c: Cursor) -> u32
     requires { ⌜ Fits (now src) c ⌝ }
     ensures { λ r. ⌜ r ≡ aheadIn (now (src .entry)) c ⌝ }
 {
+    let left = bits_left(src, c);
+    if left < c.lookahead as usize {
+        return left as u32;
+    }
     c.lookahead
 }
 
@@ -119,14 +154,16 @@ fn read_any(
     offset: usize,
     lookahead: u32,
     register: u64,
+    end: usize,
     bits: u32,
 ) -> ReadU64
-    ensures { λ r. ⌜ r ≡ readOf order (now (src .entry)) (record { offset = offset; lookahead = lookahead; register = register }) bits ⌝ }
+    ensures { λ r. ⌜ r ≡ readOf order (now (src .entry)) (record { offset = offset; lookahead = lookahead; register = register; end = end }) bits ⌝ }
 {
     let c = Cursor {
         offset: offset,
         lookahead: lookahead,
         register: register,
+        end: end,
     };
     let refusal = read_refusal(order, src, c, bits);
     if refusal != refusals::DONE {
@@ -142,7 +179,7 @@ fn read_any(
             lookahead::inner::read_short(order, src, state_in(c), bits),
         );
     }
-    let low = read_any(order, src, offset, lookahead, register, 56);
+    let low = read_any(order, src, offset, lookahead, register, end, 56);
     let middle = low.cursor;
     let full = lookahead::inner::refill(order, src, state_in(middle));
     let high = read_any(
@@ -151,6 +188,7 @@ fn read_any(
         full.offset,
         full.lookahead,
         full.register,
+        end,
         bits - 56,
     );
     let last = high.cursor;
@@ -162,7 +200,7 @@ fn read_any(
 }
 
 // The answer of a read from a cursor that was done.
-pub fn done_with(c: Cursor, taken: Taken) -> ReadU64
+fn done_with(c: Cursor, taken: Taken) -> ReadU64
     ensures { λ r. ⌜ r ≡ record { refusal = done; value = taken .value; cursor = withState c (taken .state) } ⌝ }
 {
     let next = taken.state;
@@ -173,31 +211,76 @@ pub fn done_with(c: Cursor, taken: Taken) -> ReadU64
     }
 }
 
-// A read from any cursor, its answer made anew, so that the compiler keeps the caller's in registers.
-pub fn read_out(order: Order, src: &[u8], c: Cursor, bits: u32) -> ReadU64
+// A read from any cursor, its answer made anew, so that the compiler keeps the caller's in registers; the end is the one that came.
+fn read_out(order: Order, src: &[u8], c: Cursor, bits: u32) -> ReadU64
     ensures { λ r. ⌜ r ≡ readOf order (now (src .entry)) c bits ⌝ }
 {
-    let read = read_any(order, src, c.offset, c.lookahead, c.register, bits);
+    let read = read_any(order, src, c.offset, c.lookahead, c.register, c.end, bits);
     let next = read.cursor;
     ReadU64 {
         refusal: read.refusal,
         value: read.value,
-        cursor: with_state(next, state_in(next)),
+        cursor: with_state(c, state_in(next)),
     }
 }
 
-// Whether a read is of at most 56 bits from a cursor that belongs and has eight bytes on each side.
-pub fn is_inside(order: Order, src: &[u8], c: Cursor, bits: u32) -> bool
+// Whether counts have eight bytes before the offset, and eight more before an end within the slice. (In this order: what a loop does not
+// change is tested outside it.)
+fn inside_end(len: usize, end: usize, k: Counts) -> bool
+    ensures { λ r. ⌜ r ≡ insideEnd len end k ⌝ }
+{
+    if refusals::LONGEST < len {
+        return false;
+    }
+    if 8 * len < end {
+        return false;
+    }
+    lookahead::inner::inside(end / 8, k)
+}
+
+// Whether a read is of at most 56 bits from a cursor that belongs, with eight bytes before its offset and eight more before its end.
+fn is_inside(order: Order, src: &[u8], c: Cursor, bits: u32) -> bool
     ensures { λ r. ⌜ r ≡ isInside order (now (src .entry)) c bits ⌝ }
 {
     if bits <= 56 {
         let k = counts_in(c);
-        if lookahead::inner::inside(src.len(), k) {
+        if inside_end(src.len(), c.end, k) {
             return c.register == lookahead::inner::register_behind(order, src, k);
         }
         return false;
     }
     false
+}
+
+// A read from a cursor taken apart, the order given twice: so the compiler keeps a call for each order, inlines both where the public read
+// is inlined, and drops the one that is not taken.
+pub fn read_parts(
+    order: Order,
+    again: Order,
+    src: &[u8],
+    offset: usize,
+    lookahead: u32,
+    register: u64,
+    end: usize,
+    bits: u32,
+) -> ReadU64
+    requires { ⌜ again ≡ order ⌝ }
+    ensures { λ r. ⌜ r ≡ readOf order (now (src .entry)) (record { offset = offset; lookahead = lookahead; register = register; end = end }) bits ⌝ }
+{
+    let lent = &src[..src.len()];
+    let c = Cursor {
+        offset: offset,
+        lookahead: lookahead,
+        register: register,
+        end: end,
+    };
+    if is_inside(order, lent, c, bits) {
+        return done_with(
+            c,
+            lookahead::inner::read_inside(again, lent, state_in(c), bits),
+        );
+    }
+    read_out(order, lent, c, bits)
 }
 
 // The refusal number of a peek or consume of `count` bits.
@@ -210,6 +293,37 @@ pub fn manual_refusal(order: Order, src: &[u8], c: Cursor, count: u32) -> u32
     }
     if ahead(src, c) < count {
         return refusals::PAST_LOOKAHEAD;
+    }
+    refusals::DONE
+}
+
+// The refusal number of a remainder: 1, 2, then 14 where the end is within a byte.
+pub fn remainder_refusal(order: Order, src: &[u8], c: Cursor) -> u32
+    ensures { λ r. ⌜ r ≡ remainderRefusal order (now (src .entry)) c ⌝ }
+{
+    let own = refusal(order, src, c);
+    if own != refusals::DONE {
+        return own;
+    }
+    if c.end % 8 != 0 {
+        return refusals::END_IN_BYTE;
+    }
+    refusals::DONE
+}
+
+// The refusal number of another end: 1, 2, then 13 where it is above the cursor's own or below its place.
+pub fn lower_refusal(order: Order, src: &[u8], c: Cursor, end: usize) -> u32
+    ensures { λ r. ⌜ r ≡ lowerRefusal order (now (src .entry)) c end ⌝ }
+{
+    let own = refusal(order, src, c);
+    if own != refusals::DONE {
+        return own;
+    }
+    if c.end < end {
+        return refusals::BAD_END;
+    }
+    if end < place_of(src, c) {
+        return refusals::BAD_END;
     }
     refusals::DONE
 }

@@ -1,7 +1,7 @@
 // A cursor over a lent slice: bits, fields and bytes read in either order. Each method takes the slice too, tests that the cursor
 // belongs to it, and hands the cursor that goes on back by value. Behind `new` and `from_parts` the methods stand in the order of the
-// Rust's BitReader; the remainder, which the Rust has outside it, is last. The examples are those of the program example_calls: `start`
-// is a fresh cursor, `full` a refilled one, `behind` one behind three bits.
+// Rust's BitReader; the remainder, which the Rust has outside it, and the end, which it has not, are last. The examples are those of the
+// program example_calls: `start` is a fresh cursor of the slice, `full` a refilled one, `behind` one behind three bits.
 use bits::Order;
 use bits::refusals;
 use floats::Double;
@@ -11,16 +11,17 @@ ghost use Prim.Native.Nat.{_+_, _%_};
 ghost use lib.Dec.{eqb, leb};
 ghost use lib.ListN.{length};
 ghost use Rattle.reader.specs.Cursor.{place, bitsLeft, bytesLeft, unfetched};
-ghost use Rattle.reader.specs.Answers.{newOf, readOf, asBool, asU8, asI8, asU16, asI16, asU32, asI32, asF32, asSigned, asF64, countedOf, testedOf, bytesOf, bytesOut, peekOf, consumeOf, refillOf, aheadOf, startOf, remainderOf, partialOf};
+ghost use Rattle.reader.specs.Answers.{newOf, readOf, asBool, asU8, asI8, asU16, asI16, asU32, asI32, asF32, asSigned, asF64, countedOf, testedOf, bytesOf, bytesOut, peekOf, consumeOf, refillOf, aheadOf, startOf, remainderOf, partialOf, lowerOf};
 
 pub mod inner;
 
 // The offset of the first byte not yet fetched, the bits fetched and not yet taken, and the register that holds them: at its low end
-// in little-endian order, at its high end in big-endian order, the other bits zero.
+// in little-endian order, at its high end in big-endian order, the other bits zero. And the bit place at which reading stops.
 pub struct Cursor {
     pub offset: usize,
     pub lookahead: u32,
     pub register: u64,
+    pub end: usize,
 }
 
 // The answers of reads: a refusal number, a value (0 where there is none), and the cursor that goes on.
@@ -128,41 +129,37 @@ pub struct Partial {
 }
 
 impl Cursor {
-    // A cursor at the start of a slice, or refusal 1; all zeros either way.
+    // A cursor at the start of a slice, its end the slice's; or refusal 1, and all zeros.
     //     let made = Cursor::new(b"\x5a\xff");
     //     expect(b"Cursor::new", made.refusal == 0);
     pub fn new(src: &[u8]) -> Moved
         ensures { λ r. ⌜ r ≡ newOf (now (src .entry)) ⌝ }
     {
-        let cursor = Cursor {
-            offset: 0,
-            lookahead: 0,
-            register: 0,
-        };
         if refusals::LONGEST < src.len() {
             return Moved {
                 refusal: refusals::TOO_LONG,
-                cursor: cursor,
+                cursor: Cursor::from_parts(0, 0, 0, 0),
             };
         }
         Moved {
             refusal: refusals::DONE,
-            cursor: cursor,
+            cursor: Cursor::from_parts(0, 0, 0, 8 * src.len()),
         }
     }
 
-    // The cursor of these three numbers, which need not belong to any slice: each call tests that. For tests, and for callers that keep
+    // The cursor of these four numbers, which need not belong to any slice: each call tests that. For tests, and for callers that keep
     // a cursor's numbers.
-    //     let far = Cursor::from_parts(9, 0, 0);
+    //     let far = Cursor::from_parts(9, 0, 0, 72);
     //     let got = far.read_u8(Order::Big, b"\x5a");
     //     expect(b"Cursor::from_parts", got.refusal == 2);
-    pub fn from_parts(offset: usize, lookahead: u32, register: u64) -> Cursor
-        ensures { λ r. ⌜ r ≡ record { offset = offset; lookahead = lookahead; register = register } ⌝ }
+    pub fn from_parts(offset: usize, lookahead: u32, register: u64, end: usize) -> Cursor
+        ensures { λ r. ⌜ r ≡ record { offset = offset; lookahead = lookahead; register = register; end = end } ⌝ }
     {
         Cursor {
             offset: offset,
             lookahead: lookahead,
             register: register,
+            end: end,
         }
     }
 
@@ -334,14 +331,28 @@ impl Cursor {
     pub fn read_bits(self, order: Order, src: &[u8], bits: u32) -> ReadU64
         ensures { λ r. ⌜ r ≡ readOf order (now (src .entry)) self bits ⌝ }
     {
-        let lent = &src[..src.len()];
-        if inner::is_inside(order, lent, self, bits) {
-            return inner::done_with(
-                self,
-                lookahead::inner::read_inside(order, lent, inner::state_in(self), bits),
-            );
+        match order {
+            Order::Little => inner::read_parts(
+                Order::Little,
+                Order::Little,
+                src,
+                self.offset,
+                self.lookahead,
+                self.register,
+                self.end,
+                bits,
+            ),
+            Order::Big => inner::read_parts(
+                Order::Big,
+                Order::Big,
+                src,
+                self.offset,
+                self.lookahead,
+                self.register,
+                self.end,
+                bits,
+            ),
         }
-        inner::read_out(order, lent, self, bits)
     }
 
     // A field of 0 to 64 bits as a signed number. Refusals 1, 2, 3 and 9.
@@ -385,7 +396,7 @@ impl Cursor {
         }
     }
 
-    // The bytes not yet fetched.
+    // The bytes before the end that are not yet fetched.
     //     let left = start.unbuffered_bytes_remaining(Order::Big, b"\x5a\xff");
     //     expect(b"unbuffered_bytes_remaining", left.value == 2);
     pub fn unbuffered_bytes_remaining(self, order: Order, src: &[u8]) -> Counted
@@ -400,11 +411,11 @@ impl Cursor {
         }
         Counted {
             refusal: refusals::DONE,
-            value: src.len() - self.offset,
+            value: inner::unfetched(src, self),
         }
     }
 
-    // The bits left.
+    // The bits left: those from the place up to the end.
     //     let left = start.bits_remaining(Order::Big, b"\x5a\xff");
     //     expect(b"bits_remaining", left.value == 16);
     pub fn bits_remaining(self, order: Order, src: &[u8]) -> Counted
@@ -523,7 +534,7 @@ impl Cursor {
         }
     }
 
-    // The cursor with as many more whole bytes in its lookahead as the slice and 63 bits allow.
+    // The cursor with as many more whole bytes in its lookahead as the slice, whatever the end, and 63 bits allow.
     //     let moved = start.refill_lookahead(Order::Big, b"\xa5\x01");
     //     expect(b"refill_lookahead", moved.refusal == 0);
     pub fn refill_lookahead(self, order: Order, src: &[u8]) -> Moved
@@ -545,7 +556,7 @@ impl Cursor {
         }
     }
 
-    // The bits of lookahead.
+    // The bits of lookahead, at most those left.
     //     let ahead = full.lookahead_bits(Order::Big, b"\xa5\x01");
     //     expect(b"lookahead_bits", ahead.value == 16);
     pub fn lookahead_bits(self, order: Order, src: &[u8]) -> Ahead
@@ -583,28 +594,30 @@ impl Cursor {
         }
     }
 
-    // The part of the slice from the first whole unread byte on; empty, at the slice's start, on refusal 1 or 2, which `partial` tells.
+    // The part of the slice from the first whole unread byte on, up to the end; empty, at the slice's start, on refusal 1, 2 or 14, which
+    // `partial` tells.
     //     let rest = behind.remainder(Order::Big, b"\x5a\xff");
     //     expect(b"remainder", rest.len() == 1);
     pub fn remainder(self, order: Order, src: &[u8]) -> &[u8]
         ensures bytes { λ r. ⌜ now r ≡ remainderOf order (now (src .entry)) self ⌝ }
         ensures memory { λ r. ⌜ (r .ptr .0 ≡ src .entry .ptr .0) × (r .ptr .1 ≡ src .entry .ptr .1 + startOf order (now (src .entry)) self) ⌝ }
     {
-        let refusal = inner::refusal(order, src, self);
+        let refusal = inner::remainder_refusal(order, src, self);
         if refusal != refusals::DONE {
             return &src[..0];
         }
         let start = self.offset - (self.lookahead / 8) as usize;
-        &src[start..]
+        let last = self.end / 8;
+        &src[start..last]
     }
 
-    // The bits before the remainder: fewer than eight, and their value.
+    // The bits before the remainder: fewer than eight, and their value. Refusals 1, 2 and 14, for an end within a byte.
     //     let before = behind.partial(Order::Big, b"\x5a\xff");
     //     expect(b"partial", before.partial_byte == 0x1a);
     pub fn partial(self, order: Order, src: &[u8]) -> Partial
         ensures { λ r. ⌜ r ≡ partialOf order (now (src .entry)) self ⌝ }
     {
-        let refusal = inner::refusal(order, src, self);
+        let refusal = inner::remainder_refusal(order, src, self);
         if refusal != refusals::DONE {
             return Partial {
                 refusal: refusal,
@@ -617,6 +630,27 @@ impl Cursor {
             refusal: refusals::DONE,
             partial_bits: bits as u8,
             partial_byte: lookahead::inner::peek(order, src, inner::state_in(self), bits) as u8,
+        }
+    }
+
+    // The cursor with a lower end, behind which it reads nothing; the end that it has and its own place are fine. Refusals 1, 2 and 13.
+    //     let moved = start.lower_end(Order::Big, b"\x5a\xff", 8);
+    //     let cut = moved.cursor;
+    //     let left = cut.bits_remaining(Order::Big, b"\x5a\xff");
+    //     expect(b"lower_end", left.value == 8);
+    pub fn lower_end(self, order: Order, src: &[u8], end: usize) -> Moved
+        ensures { λ r. ⌜ r ≡ lowerOf order (now (src .entry)) self end ⌝ }
+    {
+        let refusal = inner::lower_refusal(order, src, self, end);
+        if refusal != refusals::DONE {
+            return Moved {
+                refusal: refusal,
+                cursor: self,
+            };
+        }
+        Moved {
+            refusal: refusals::DONE,
+            cursor: inner::ending_at(self, end),
         }
     }
 }

@@ -83,7 +83,7 @@ mixed-round-trip o s es short fit room =
     let a : Alone o all pad (pack o 0 es) b =
     subst (λ (k : ℕ). Alone o k pad (pack o 0 es) b) n (subst (λ (k : ℕ). Alone o (bitsWritten (q .writer)) pad k b) x (alone o (q .out) (q .writer) h)) in
     let came : Came o b pad es (back o s es) =
-    all-read o b (R.newOf b .cursor) 0 pad es (a .short) (fresh-belongs b (a .short) o) fit (fresh-left b ∙ a .whole) (zero-add _ ∙ fresh-left b)
+    all-read o b (R.newOf b .cursor) 0 pad es (a .short) (fresh-belongs b (a .short) o) fit (fresh-left b (a .short) ∙ a .whole) (zero-add _ ∙ fresh-left b (a .short))
     (ap (λ (k : ℕ). field o b k (all + pad)) (fresh-place b) ∙ a .holds) in
     record {
       new-writer = new-done (length s) short;

@@ -45,7 +45,7 @@ fn start() -> Machine {
         other: false,
         len: 0,
         size: 0,
-        cursor: Cursor::from_parts(0, 0, 0),
+        cursor: Cursor::from_parts(0, 0, 0, 0),
         writer: Writer {
             written: 0,
             held: 0,
@@ -79,9 +79,9 @@ fn run_line(
 // What a letter calls: sign extension and the double of a single are answered beside the calls on the cursor.
 fn target_of(letter: u8) -> Target {
     match letter {
-        b'n' | b'b' | b's' | b'f' | b'q' | b'h' | b'p' | b'c' | b'r' | b'y' | b'm' | b'k' =>
+        b'n' | b'b' | b's' | b'f' | b'q' | b'h' | b'p' | b'c' | b'r' | b'y' | b'm' =>
             Target::Cursor,
-        b'e' | b'd' => Target::Cursor,
+        b'l' | b'k' | b'g' | b'e' | b'd' => Target::Cursor,
         b'N' | b'w' | b'x' | b'F' | b'Y' | b'u' | b'z' | b'o' | b'K' => Target::Writer,
         _ => Target::Nothing,
     }
@@ -111,8 +111,13 @@ fn setup(l: Line, m: Machine, src: &mut [u8], out: &mut [u8], buf: &[u8]) -> Mac
             next.size = words::repeat(out, l.first, (l.second % 256) as u8);
         }
         b'C' => {
-            let c = given_cursor(l);
+            let c = given_cursor(l, src, m.len);
             next.cursor = c;
+        }
+        b'E' => {
+            let c = m.cursor;
+            let cut = given_end(l, c);
+            next.cursor = cut;
         }
         b'D' => {
             let w = given_writer(l);
@@ -123,9 +128,22 @@ fn setup(l: Line, m: Machine, src: &mut [u8], out: &mut [u8], buf: &[u8]) -> Mac
     next
 }
 
-// The cursor of three numbers.
-fn given_cursor(l: Line) -> Cursor {
-    Cursor::from_parts(l.first as usize, (l.second % 0x1_0000_0000) as u32, l.third)
+// The cursor of three numbers, its end that of a fresh one.
+fn given_cursor(l: Line, all: &[u8], n: usize) -> Cursor {
+    let len = within(all, n);
+    let made = Cursor::new(&all[..len]);
+    let fresh = made.cursor;
+    Cursor::from_parts(
+        l.first as usize,
+        (l.second % 0x1_0000_0000) as u32,
+        l.third,
+        fresh.end,
+    )
+}
+
+// The cursor with another end, legal or not.
+fn given_end(l: Line, c: Cursor) -> Cursor {
+    Cursor::from_parts(c.offset, c.lookahead, c.register, l.first as usize)
 }
 
 // The writer of three numbers.

@@ -1,4 +1,5 @@
-// The same calls another way: reads and writes by typed values, manual mode on a borrowed cursor, the remainder as one record.
+// The same calls another way: reads and writes by typed values, manual mode and lower ends on a borrowed cursor, the remainder as one
+// record.
 use crate::reads;
 use crate::reads::Read;
 use crate::writes;
@@ -32,7 +33,7 @@ pub fn read(
         return reads::call(letter, a, b, order, c, src, buf, line);
     }
     match letter {
-        b'b' | b's' | b'f' | b'p' | b'c' | b'r' => reads::told_of(
+        b'b' | b's' | b'f' | b'p' | b'c' | b'r' | b'l' => reads::told_of(
             answer(letter, a, c, order, src),
             line,
         ),
@@ -63,6 +64,11 @@ fn answer(letter: u8, n: u64, c: Cursor, order: Order, src: &[u8]) -> ReadU64 {
             let next = r.cursor;
             reads::plain(r.refusal, 0, next)
         }
+        b'l' => {
+            let r = lent::lowered(c, order, src, n as usize);
+            let next = r.cursor;
+            reads::plain(r.refusal, 0, next)
+        }
         _ => {
             let r = lent::refilled(c, order, src);
             let next = r.cursor;
@@ -88,7 +94,7 @@ fn typed_read(c: Cursor, order: Order, src: &[u8], kind: Kind, width: u32) -> Re
     }
 }
 
-// The remainder record's numbers, and the bytes of its slice: the source's last ones.
+// The remainder record's numbers, and the bytes of its slice: the last ones before the cursor's end.
 fn remainder(c: Cursor, order: Order, src: &[u8], line: &mut [u8]) -> usize
     ensures { λ n. ⌜ n ≤ length (now (line .entry)) ⌝ }
 {
@@ -96,8 +102,9 @@ fn remainder(c: Cursor, order: Order, src: &[u8], line: &mut [u8]) -> usize
     let rest = lent::left(c, order, src);
     let value = 16 * (rest.partial_byte as u64) + rest.partial_bits as u64;
     let end = reads::told(line, told.refusal, value, c);
-    let start = before_last(src, rest.length);
-    words::put_next_bytes(line, end, &src[start..])
+    let last = crate::within(src, c.end / 8);
+    let start = before(last, rest.length);
+    words::put_next_bytes(line, end, &src[start..last])
 }
 
 // The typed double of a typed single, both by their bits.
@@ -109,11 +116,11 @@ fn widen(bits: u64, line: &mut [u8]) -> usize
     words::put_two(line, 0, typed::bits_of_typed(wide))
 }
 
-// The place of the last n bytes, or 0 where there are fewer.
-fn before_last(src: &[u8], n: usize) -> usize
-    ensures { λ r. ⌜ r ≤ length (now (src .entry)) ⌝ }
+// The place n bytes before another, or 0 where there are fewer.
+fn before(last: usize, n: usize) -> usize
+    ensures { λ r. ⌜ r ≤ last ⌝ }
 {
-    if n < src.len() { src.len() - n } else { 0 }
+    if n < last { last - n } else { 0 }
 }
 
 // Runs a call on the writer: the other way if that is asked for and there is one, else as it is.

@@ -34,9 +34,9 @@ pub fn call(
             cursor: c,
             length: remainder(c, order, src, line),
         },
-        b'k' => Read {
+        b'k' | b'g' => Read {
             cursor: c,
-            length: words::put_three(line, c.offset as u64, c.lookahead as u64, c.register),
+            length: shown(letter, c, line),
         },
         b'e' => Read {
             cursor: c,
@@ -170,7 +170,7 @@ fn count(k: u64, c: Cursor, order: Order, src: &[u8]) -> ReadU64 {
     }
 }
 
-// A call of manual mode.
+// A call of manual mode, or a lower end.
 fn manual(letter: u8, n: u64, c: Cursor, order: Order, src: &[u8]) -> ReadU64 {
     match letter {
         b'p' => {
@@ -179,6 +179,11 @@ fn manual(letter: u8, n: u64, c: Cursor, order: Order, src: &[u8]) -> ReadU64 {
         }
         b'c' => {
             let r = c.consume(order, src, crate::narrow(n));
+            let next = r.cursor;
+            plain(r.refusal, 0, next)
+        }
+        b'l' => {
+            let r = c.lower_end(order, src, n as usize);
             let next = r.cursor;
             plain(r.refusal, 0, next)
         }
@@ -212,6 +217,16 @@ fn remainder(c: Cursor, order: Order, src: &[u8], line: &mut [u8]) -> usize
     let value = 16 * (r.partial_byte as u64) + r.partial_bits as u64;
     let end = told(line, r.refusal, value, c);
     words::put_next_bytes(line, end, c.remainder(order, src))
+}
+
+// The cursor itself: its end, or its other numbers.
+fn shown(letter: u8, c: Cursor, line: &mut [u8]) -> usize
+    ensures { λ n. ⌜ n ≤ length (now (line .entry)) ⌝ }
+{
+    if letter == b'g' {
+        return words::put_one(line, c.end as u64);
+    }
+    words::put_three(line, c.offset as u64, c.lookahead as u64, c.register)
 }
 
 // An answer with a value of 64 bits.

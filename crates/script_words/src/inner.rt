@@ -214,11 +214,18 @@ fn put_next(line: &mut [u8], at: usize, n: u64) -> usize
     put_number(line, space, n)
 }
 
+// A line of one number.
+pub fn put_one(line: &mut [u8], a: u64) -> usize
+    ensures { λ r. ⌜ r ≤ length (now (line .entry)) ⌝ }
+{
+    put_number(line, 0, a)
+}
+
 // A line of two numbers.
 pub fn put_two(line: &mut [u8], a: u64, b: u64) -> usize
     ensures { λ r. ⌜ r ≤ length (now (line .entry)) ⌝ }
 {
-    let end = put_number(line, 0, a);
+    let end = put_one(line, a);
     put_next(line, end, b)
 }
 

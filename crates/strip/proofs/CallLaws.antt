@@ -85,7 +85,7 @@ pub record Behind (s : List ℕ) (i : ℕ) (c : Cursor) : Type 0 where
 
 module _ (s : List ℕ) where
   pub behind-none : length s ≤ longest → Behind s 0 (newOf s .cursor)
-  behind-none short = record { belongs = fresh-belongs s short Big; here = fresh-place s; left = omega (arith, fresh-left s) }
+  behind-none short = record { belongs = fresh-belongs s short Big; here = fresh-place s; left = omega (arith, fresh-left s short) }
 
   module _ (i : ℕ) (c : Cursor) (g : Behind s i c) where
     -- the next record is read, if there is one

@@ -12,8 +12,8 @@ Inv-loop src skip buf₀ times cursor₀ sum₀ left₀ buf cursor sum left = le
 abbrev μ-loop : tie.MeasureT-loop
 μ-loop src skip buf₀ times cursor₀ sum₀ left₀ buf cursor sum left = left
 
-from-parts-requires : tie.Need-from-parts-requires Inv-loop μ-loop
-from-parts-requires c κs = search needs
+new-requires : tie.Need-new-requires Inv-loop μ-loop
+new-requires c κs = search needs
 
 read-bits-requires : tie.Need-read-bits-requires Inv-loop μ-loop
 read-bits-requires c κs = search needs
@@ -54,7 +54,7 @@ reads-big-spec =
     (tie.spec
     Inv-loop
     μ-loop
-    from-parts-requires
+    new-requires
     read-bits-requires
     loop-holds
     read-bytes-requires

@@ -10,19 +10,20 @@ use Rattle.bits.proofs.RefusalLaws.{if-refused, if-done}
 use Rattle.counts.specs.Counts as C
 use Rattle.lookahead.specs.declared.State.{State}
 use Rattle.lookahead.specs.State.{countsOf, Belongs}
-use Rattle.reader.proofs.CursorLaws.{own-state, refusal-own}
+use Rattle.reader.proofs.CursorLaws.{own-state}
 use Rattle.reader.specs.Answers.{partialOf}
+use Rattle.reader.proofs.AnswerLaws.{remainder-granted}
 use borrow.Author.Needs.{needs}
 use Rattle.reader.proofs.Cursor.partial.Statement.{statement}
 use Rattle.reader.proofs.Cursor.partial.Tie as tie
 
-refusal-requires : tie.Need-refusal-requires
-refusal-requires c κs = search needs
+remainder-refusal-requires : tie.Need-remainder-refusal-requires
+remainder-refusal-requires c κs = search needs
 
 returns : tie.Need-returns
 unfolding partialOf
 returns c =
-    let e = c .before .refusal .ensures in
+    let e = c .before .remainder-refusal .ensures in
     (λ i. record { refusal = e i; «partial_bits» = 0; «partial_byte» = 0 }) ∙ if-refused e _ _ (c .if1 .taken)
 
 cast-t7 : tie.Need-cast-t7
@@ -34,7 +35,7 @@ state-in-requires c κs = search needs
 peek-requires : tie.Need-peek-requires
 peek-requires c κs =
     let a = c .before .before .before .before .before .args in
-    let h = refusal-own (sym (c .before .before .before .refusal .ensures) ∙ c .before .before .if1 .left) in
+    let (h, _) = remainder-granted _ _ _ (sym (c .before .before .before .remainder-refusal .ensures) ∙ c .before .before .if1 .left) in
     subst (λ (t : State). Belongs (a .order) (a .src .now) t × (a .self .lookahead % 8 ≤ t .lookahead)) (sym (c .state-in .ensures))
     (own-state h, omega arith)
 
@@ -51,9 +52,9 @@ returns-2 c =
     let n : ℕ = a .self .lookahead % 8 in
     let v = c .peek .ensures ∙ ap (λ (t : State). field (a .order) (a .src .now) (C.place (countsOf t)) n) (c .before .state-in .ensures) in
     (λ i. record { refusal = 0; «partial_bits» = n; «partial_byte» = v i })
-    ∙ if-done (c .before .before .before .before .refusal .ensures) _ _ (c .before .before .before .if1 .left)
+    ∙ if-done (c .before .before .before .before .remainder-refusal .ensures) _ _ (c .before .before .before .if1 .left)
 
 pub partial-spec : {M : Type 1} → statement M
 partial-spec =
     tie.close
-    (tie.spec refusal-requires returns cast-t7 state-in-requires peek-requires cast-t10 returns-2)
+    (tie.spec remainder-refusal-requires returns cast-t7 state-in-requires peek-requires cast-t10 returns-2)

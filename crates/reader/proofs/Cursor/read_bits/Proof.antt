@@ -1,81 +1,27 @@
--- `read_bits` meets its contract: all of a slice is the slice (`take-length`); a read inside it is done (`inside-done`), and any other is that of
--- `read_out`. Assumes nothing.
-use mathlib.Core.Path.{_≡_, sym, ap, _∙_, subst}
-use Prim.Native.Nat.{ℕ, _≤_}
-use mathlib.Core.Bool.{true}
-use mathlib.Core.List.{List}
-use lib.ListN.{length, take}
-use lib.Seq.{take-length}
-use Rattle.bits.specs.Refusals.{done}
-use Rattle.lookahead.specs.declared.State.{State}
-use Rattle.lookahead.specs.declared.Taken.{Taken}
-use Rattle.lookahead.specs.State.{Belongs, countsOf, takenOf, inside}
-use Rattle.reader.specs.Cursor.{withState, countsIn, cursorAt, Own}
-use Rattle.reader.proofs.CursorLaws.{own-state}
-use Rattle.reader.specs.Answers.{readRefusal, readOf}
-use Rattle.reader.proofs.ReadLaws.{inside-done, read-done}
+-- `read_bits` meets its contract: whichever the order is, it is handed on twice. Assumes nothing.
 use borrow.Author.Needs.{needs}
 use Rattle.reader.proofs.Cursor.read_bits.Statement.{statement}
 use Rattle.reader.proofs.Cursor.read_bits.Tie as tie
 
-slice-aggregate-lent : tie.Need-slice-aggregate-lent
-slice-aggregate-lent c = ap length (sym (take-length (c .before .before .args .src .now)))
+enum-told : tie.Need-enum-told
+enum-told c = search needs
 
-is-inside-requires : tie.Need-is-inside-requires
-is-inside-requires c κs = search needs
+read-parts-requires : tie.Need-read-parts-requires
+read-parts-requires c κs = search needs
 
-state-in-requires : tie.Need-state-in-requires
-state-in-requires c κs = search needs
+enum-told-2 : tie.Need-enum-told-2
+enum-told-2 c = search needs
 
--- a read that is_inside lets pass is done
-granted :
-    (c : tie.After-state-in) → let a = c .before .before .before .before .before .args in
-    let s = take (length (a .src .now)) (a .src .now) in
-    Own (a .order) s (a .self) × (inside (length s) (countsIn (a .self)) ≡ true) × (a .bits ≤ 56) × (readRefusal (a .order) s (a .self) (a .bits) ≡ done)
-granted c = inside-done _ _ _ _ (sym (c .before .before .is-inside .ensures) ∙ c .before .if1 .taken)
-
-read-inside-requires : tie.Need-read-inside-requires
-read-inside-requires c κs =
-    let a = c .before .before .before .before .before .args in
-    let s = take (length (a .src .now)) (a .src .now) in
-    let (h, within, narrow, _) = granted c in (
-      subst (Belongs (a .order) s) (sym (c .state-in .ensures)) (own-state h),
-      subst (λ (t : State). inside (length s) (countsOf t) ≡ true) (sym (c .state-in .ensures)) within,
-      narrow,
-    )
-
-done-with-requires : tie.Need-done-with-requires
-done-with-requires c κs = search needs
+read-parts-requires-2 : tie.Need-read-parts-requires-2
+read-parts-requires-2 c κs = search needs
 
 returns : tie.Need-returns
-unfolding cursorAt
-returns c =
-    let c₁ = c .before .before in
-    let a = c₁ .before .before .before .before .before .args in
-    let s = take (length (a .src .now)) (a .src .now) in
-    c .done-with .ensures
-    ∙ ap (λ (x : Taken). record { refusal = done; value = x .value; cursor = withState (a .self) (x .state) })
-    (c .before .read-inside .ensures ∙ ap (λ (t : State). takenOf (a .order) s (countsOf t) (a .bits)) (c₁ .state-in .ensures))
-    ∙ sym (read-done (a .order) s (a .self) (a .bits) (granted c₁ .3))
-    ∙ ap (λ (l : List ℕ). readOf (a .order) l (a .self) (a .bits)) (take-length (a .src .now))
-
-read-out-requires : tie.Need-read-out-requires
-read-out-requires c κs = search needs
+returns c = rw (c .before .enum-told .given .1) (c .read-parts .ensures)
 
 returns-2 : tie.Need-returns-2
-returns-2 c =
-    let a = c .before .before .before .before .before .args in
-    c .read-out .ensures ∙ ap (λ (l : List ℕ). readOf (a .order) l (a .self) (a .bits)) (take-length (a .src .now))
+returns-2 c = rw (c .before .enum-told2 .given .1) (c .read-parts2 .ensures)
 
 pub read-bits-spec : {M : Type 1} → statement M
 read-bits-spec =
     tie.close
-    (tie.spec
-    slice-aggregate-lent
-    is-inside-requires
-    state-in-requires
-    read-inside-requires
-    done-with-requires
-    returns
-    read-out-requires
-    returns-2)
+    (tie.spec enum-told read-parts-requires enum-told-2 read-parts-requires-2 returns returns-2)

@@ -35,7 +35,7 @@ use Rattle.reader.proofs.inner.+read_any.{statement}
 use Rattle.reader.proofs.inner.+read_any.Tie.{close}
 
 abbrev μ-read-any : Measures 1 read-any-kinds.ps ℕ
-μ-read-any κs a = a .1 .1 .1 .1 .1 .0
+μ-read-any κs a = a .1 .1 .1 .1 .1 .1 .0
 
 module _ (t : ℕ) where
   abbrev read-any-at : In 1 read-any-kinds.ps
@@ -67,7 +67,7 @@ module _ (t : ℕ) where
 
   -- the cursor that is read from, and that its read is not refused
   abbrev from : at read-any-lts.Start → Cursor
-  from c = record { offset = c .args .offset; lookahead = c .args .lookahead; register = c .args .register }
+  from c = record { offset = c .args .offset; lookahead = c .args .lookahead; register = c .args .register; end = c .args .end }
 
   refused : at read-any-lts.Need-returns
   unfolding readOf

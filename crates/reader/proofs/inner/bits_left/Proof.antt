@@ -1,25 +1,19 @@
--- `bits_left` meets its contract: the cursor's counts are handed on. Assumes nothing.
-use mathlib.Core.Path.{sym, ap, _∙_, subst}
-use lib.ListN.{length}
-use Rattle.counts.specs.Counts as C
+-- `bits_left` meets its contract: the place of a cursor that belongs is not past its end. Assumes nothing.
+use mathlib.Core.Path.{ap, subst, sym}
+use Prim.Native.Nat.{ℕ, _-_, _≤_}
 use Rattle.reader.specs.Cursor.{bitsLeft}
-use borrow.Author.Needs.{needs}
 use Rattle.reader.proofs.inner.bits_left.Statement.{statement}
 use Rattle.reader.proofs.inner.bits_left.Tie as tie
 
-counts-in-requires : tie.Need-counts-in-requires
-counts-in-requires c κs = search needs
+place-of-requires : tie.Need-place-of-requires
+place-of-requires c κs = c .before .pre
 
-bits-left-requires : tie.Need-bits-left-requires
-bits-left-requires c κs =
-    let a = c .before .before in
-    (subst (C.Within (length (a .args .src .now))) (sym (c .counts-in .ensures)) (a .pre .within), a .pre .short)
+sub-result : tie.Need-sub-result
+sub-result c = subst (λ (p : ℕ). p ≤ c .before .before .before .args .c .end) (sym (c .before .place-of .ensures)) (c .before .before .before .pre .reached)
 
 returns : tie.Need-returns
 unfolding bitsLeft
-returns c =
-    let a = c .before .before .before .args in
-    c .bits-left .ensures ∙ ap (C.bitsLeft (length (a .src .now))) (c .before .counts-in .ensures)
+returns c = ap (λ (p : ℕ). c .before .before .before .args .c .end - p) (c .before .place-of .ensures)
 
 pub bits-left-spec : {M : Type 1} → statement M
-bits-left-spec = tie.close (tie.spec counts-in-requires bits-left-requires returns)
+bits-left-spec = tie.close (tie.spec place-of-requires sub-result returns)

@@ -1,25 +1,16 @@
--- `bytes_left` meets its contract: the cursor's counts are handed on. Assumes nothing.
-use mathlib.Core.Path.{sym, ap, _∙_, subst}
-use lib.ListN.{length}
-use Rattle.counts.specs.Counts as C
+-- `bytes_left` meets its contract: eight of the bits left are a byte. Assumes nothing.
+use Prim.Native.Nat.{ℕ, _/_}
+use mathlib.Core.Path.{ap}
 use Rattle.reader.specs.Cursor.{bytesLeft}
-use borrow.Author.Needs.{needs}
 use Rattle.reader.proofs.inner.bytes_left.Statement.{statement}
 use Rattle.reader.proofs.inner.bytes_left.Tie as tie
 
-counts-in-requires : tie.Need-counts-in-requires
-counts-in-requires c κs = search needs
-
-bytes-left-requires : tie.Need-bytes-left-requires
-bytes-left-requires c κs =
-    let a = c .before .before in
-    (subst (C.Within (length (a .args .src .now))) (sym (c .counts-in .ensures)) (a .pre .within), a .pre .short)
+bits-left-requires : tie.Need-bits-left-requires
+bits-left-requires c κs = c .before .pre
 
 returns : tie.Need-returns
 unfolding bytesLeft
-returns c =
-    let a = c .before .before .before .args in
-    c .bytes-left .ensures ∙ ap (C.bytesLeft (length (a .src .now))) (c .before .counts-in .ensures)
+returns c = ap (λ (n : ℕ). n / 8) (c .bits-left .ensures)
 
 pub bytes-left-spec : {M : Type 1} → statement M
-bytes-left-spec = tie.close (tie.spec counts-in-requires bytes-left-requires returns)
+bytes-left-spec = tie.close (tie.spec bits-left-requires returns)

@@ -7,9 +7,10 @@ use lib.Dec.{eqb}
 use borrow.Author.Tests.{le-leb, lt-leb}
 use Rattle.counts.specs.declared.Counts.{Counts}
 use Rattle.counts.specs.Counts.{Within}
-use Rattle.lookahead.specs.State.{inside, registerOf}
+use Rattle.lookahead.specs.State.{registerOf}
 use Rattle.lookahead.proofs.StateLaws.{inside-is}
-use Rattle.reader.specs.Cursor.{countsIn, isInside}
+use Rattle.reader.specs.Cursor.{countsIn, insideEnd, isInside}
+use Rattle.reader.proofs.ReadLaws.{end-is}
 use borrow.Author.Needs.{needs}
 use Rattle.reader.proofs.inner.is_inside.Statement.{statement}
 use Rattle.reader.proofs.inner.is_inside.Tie as tie
@@ -17,19 +18,20 @@ use Rattle.reader.proofs.inner.is_inside.Tie as tie
 counts-in-requires : tie.Need-counts-in-requires
 counts-in-requires c κs = search needs
 
-inside-requires : tie.Need-inside-requires
-inside-requires c κs = search needs
+inside-end-requires : tie.Need-inside-end-requires
+inside-end-requires c κs = search needs
 
 -- what the test of the counts is
-told : (c : tie.After-inside) → let a = c .before .before .before .before .args in c .inside .result ≡ inside (length (a .src .now)) (countsIn (a .c))
+told : (c : tie.After-inside-end) → let a = c .before .before .before .before .args in c .inside-end .result ≡ insideEnd (length (a .src .now)) (a .c .end) (countsIn (a .c))
 told c =
     let a = c .before .before .before .before .args in
-    c .inside .ensures ∙ ap (inside (length (a .src .now))) (c .before .counts-in .ensures)
+    c .inside-end .ensures ∙ ap (insideEnd (length (a .src .now)) (a .c .end)) (c .before .counts-in .ensures)
 
 register-behind-requires : tie.Need-register-behind-requires
 register-behind-requires c κs =
     let a = c .before .before .before .before .before .args in
-    let i = inside-is (length (a .src .now)) (countsIn (a .c)) (sym (told (c .before)) ∙ c .if2 .taken) in
+    let (within, _, _) = end-is (length (a .src .now)) (a .c .end) (countsIn (a .c)) (sym (told (c .before)) ∙ c .if2 .taken) in
+    let i = inside-is (length (a .src .now)) (countsIn (a .c)) within in
     subst (λ (k : Counts). Within (length (a .src .now)) k × (8 ≤ k .offset)) (sym (c .before .before .counts-in .ensures))
     (record { fetched = omega (arith, i .1); small = i .3; behind = omega (arith, i .2, i .3) }, i .2)
 
@@ -55,7 +57,7 @@ is-inside-spec =
     tie.close
     (tie.spec
     counts-in-requires
-    inside-requires
+    inside-end-requires
     register-behind-requires
     returns
     returns-2
