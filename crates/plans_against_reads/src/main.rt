@@ -1,5 +1,5 @@
-// Random layouts, compiled and run in both orders from random places, against the reader's own answers field by field: values, the end
-// place, and the refusal where too few bits are left. Writes how many runs agree, of 600.
+// Random layouts, compiled and run in both orders from random places up to random ends, against the reader's own answers field by field:
+// values, the place behind, and the refusal where too few bits are left. Writes how many runs agree, of 600.
 use bits::Order;
 use reader::Cursor;
 
@@ -78,7 +78,7 @@ fn drawn(x: u64, i: usize) -> u8 {
     (x / 65536 % 65) as u8
 }
 
-// Whether a run agrees with reading field by field, from a place behind some bits.
+// Whether a run agrees with reading field by field, from a place behind some bits, up to an end that may be lowered.
 fn agrees(order: Order, src: &[u8], layout: &[u8], seed: u64) -> bool {
     let mut plan = [0u8; 256];
     let compiled = layout::compile(layout, &mut plan);
@@ -92,7 +92,9 @@ fn agrees(order: Order, src: &[u8], layout: &[u8], seed: u64) -> bool {
     let fresh = Cursor::new(src);
     let start = fresh.cursor;
     let read = start.read_bits(order, src, (seed / 1024 % 57) as u32);
-    let from = read.cursor;
+    let behind = read.cursor;
+    let moved = behind.lower_end(order, src, (seed / 65536 % 2401) as usize);
+    let from = moved.cursor;
     let mut results = [0u64; 64];
     let ran = plan::run(from, order, src, &plan[..length], &mut results);
     let last = ran.cursor;

@@ -1,12 +1,12 @@
-// What is left of a slice behind a cursor, as one record: a partial byte, and the whole bytes after it.
+// What is left of a slice behind a cursor, up to its end, as one record: a partial byte, and the whole bytes after it.
 use bits::Order;
 use reader::Cursor;
 ghost use mathlib.Core.Path.{_≡_};
 ghost use Prim.Native.Nat.{_+_};
 ghost use Rattle.reader.specs.Answers.{startOf, remainderOf, partialOf};
 
-// The bits before the first whole unread byte, as a number and how many, and the slice from that byte on. It has no refusal number:
-// `partial` tells it, and all is 0 or empty where there is one.
+// The bits before the first whole unread byte, as a number and how many, and the slice from that byte on up to the end. It has no refusal
+// number: `partial` tells it, and all is 0 or empty where there is one.
 pub struct Remainder<'a> {
     partial_byte: u8,
     partial_bits: u8,

@@ -26,6 +26,9 @@ cast-read-bits c = search needs
 read-bits-requires : tie.Need-read-bits-requires
 read-bits-requires c κs = search needs
 
+lower-end-requires : tie.Need-lower-end-requires
+lower-end-requires c κs = search needs
+
 array-share-prefix-plan : tie.Need-array-share-prefix-plan
 array-share-prefix-plan c = search needs
 
@@ -58,6 +61,7 @@ agrees-spec =
     new-requires
     cast-read-bits
     read-bits-requires
+    lower-end-requires
     array-share-prefix-plan
     slice-aggregate-run
     slice-aggregate-run-2
