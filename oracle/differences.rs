@@ -46,6 +46,10 @@ fn main() {
         r.read_bit();
         r.read_bytes(&mut [0; 17]).to_string()
     });
+    shown("8, 3 and 1 bits of FF 04, big endian, which can't be told to stop at bit 11", || {
+        let mut r = BigEndianReader::new(&[0xff, 0x04]);
+        format!("{:?} {:?} {:?}", r.read_bits(8), r.read_bits(3), r.read_bits(1))
+    });
     shown("write_bits(3, 0), write_bits(3, 8), flush, big endian", || {
         let mut out = Vec::new();
         let mut w = BigEndianWriter::new(&mut out);
