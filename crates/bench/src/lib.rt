@@ -1,5 +1,7 @@
 // The loops that bench/run times beside the Rust's: each goes through a whole slice in one way of the library and answers a sum of what
 // it read, which the driver compares. Nothing is claimed of them but that they are safe.
+#![tactic(auto)]
+
 use bits::Order;
 use vetting::Verdict;
 

@@ -8,7 +8,7 @@ pub const MOST: u64 = 1_000_000_000_000;
 
 // A part's value, how many digits it has, and the place behind the byte that ends it. What is bad has the value MOST, no digit, and the
 // end of the text as its place.
-#[derive(Drop)]
+#[derive(Clone, Copy)]
 pub struct PartAt {
     pub value: u64,
     pub count: usize,
@@ -16,7 +16,7 @@ pub struct PartAt {
 }
 
 // The value of a run of digits, and the place where it ends.
-#[derive(Drop)]
+#[derive(Clone, Copy)]
 pub struct Run {
     pub value: u64,
     pub next: usize,
@@ -30,7 +30,7 @@ fn between(low: usize, n: usize, high: usize) -> bool
 }
 
 // Whether a byte is a digit.
-fn is_digit_lem(b: u8) -> bool
+fn is_digit(b: u8) -> bool
     ensures { result ≡ is_digit b }
 {
     between(b'0' as usize, b as usize, b'9' as usize)
@@ -54,7 +54,7 @@ fn run_at(src: &[u8], at: usize) -> Run
     let mut i = at;
     while i < src.len() {
         let b = src[i];
-        if is_digit_lem(b) {
+        if is_digit(b) {
             value = one_more(value, b);
             i += 1;
         } else {

@@ -1,5 +1,7 @@
 // The example of every public call, as its comment has it, and a message that wraps a strip: what is expected is worked out by hand, and
 // each line written says whether the call answered so. `start` is a fresh cursor of the slice that is read, `blank` a fresh writer.
+#![tactic(auto)]
+
 use bits::Order;
 use reader::Cursor;
 use record::Record;

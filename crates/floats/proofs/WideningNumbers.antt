@@ -73,6 +73,8 @@ both_sizes (fin r m e) s t a b v w = (
       ∙ ap (λ (n : ℕ). n * 2 ^ 925) v.1
       ∙ mul_right_comm a (down e) (2 ^ 925)),
 )
+both_sizes nan s t a b v w = elim v [ ]
+both_sizes (inf _) s t a b v w = elim v [ ]
 
 -- Every finite single, b its bits and d those of the double: d is finite, its sign is b's, and so is its size.
 pub exact_numbers : (x : Single) →

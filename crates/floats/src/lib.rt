@@ -1,18 +1,20 @@
 // Floats that keep every bit pattern. The language's own f32 and f64 have one NaN with no payload, so a single or a double is
 // a number, or bits. A value means its bits: two values are the same float exactly if their bits are.
+#![tactic(auto)]
+
 ghost use Rattle.std.specs.Prelude.{◌≡◌};
 ghost use Rattle.floats.specs.Floats.{single_of, single_bits, same_single, double_of, double_bits, same_double};
 ghost use Rattle.floats.specs.Widening.{widened};
 
 // A number of 32 bits, or the 32 bits of a NaN. `Bits` that are no NaN's are the number with these bits; no read gives them.
-#[derive(Drop)]
+#[derive(Clone, Copy)]
 pub enum Single {
     Number(f32),
     Bits(u32),
 }
 
 // A number of 64 bits, or the 64 bits of a NaN. `Bits` that are no NaN's are the number with these bits; no read gives them.
-#[derive(Drop)]
+#[derive(Clone, Copy)]
 pub enum Double {
     Number(f64),
     Bits(u64),

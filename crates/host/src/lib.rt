@@ -1,4 +1,6 @@
 // The phone's C host: the refusal number and the value of a field at a bit place, with no cursor.
+#![tactic(auto)]
+
 ghost use Rattle.std.specs.Prelude.{◌≡◌, length};
 ghost use Rattle.host.specs.Host.{order_of, host_refusal, host_value};
 

@@ -1,5 +1,7 @@
 // The manual calls and `lower_end` of a caller's own cursor, which is changed where it stands. Each is the reader's call by value: a
 // refused call stores the cursor that came.
+#![tactic(auto)]
+
 ghost use Rattle.std.specs.Prelude.{◌≡◌};
 ghost use Rattle.reader.specs.Answers.{peek_of, consume_of, refill_of, lower_of, moved};
 

@@ -1,4 +1,6 @@
 // Whole jobs: all that a program reads to all that it writes.
+#![tactic(auto)]
+
 ghost use Rattle.std.specs.Prelude.{◌≡◌, length};
 ghost use Rattle.jobs.specs.Jobs.{list_answer, pack_answer, rows_answer, pack_rows_answer, check_answer};
 ghost use Rattle.jobs.specs.Answers.{answered_of, answered_out};
@@ -10,7 +12,7 @@ use vetting::Verdict;
 pub mod inner;
 
 // A refusal number, and the answer's length, 0 where there is none.
-#[derive(Drop)]
+#[derive(Clone, Copy)]
 pub struct Answered {
     pub refusal: u32,
     pub length: usize,

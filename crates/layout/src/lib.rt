@@ -1,4 +1,6 @@
 // Layouts, and the plans that they compile to.
+#![tactic(auto)]
+
 ghost use Rattle.std.specs.Prelude.{◌≡◌, length};
 ghost use Rattle.layout.specs.Answers.{compile_of, compile_out, check_of};
 
@@ -7,7 +9,7 @@ use bits::refusals;
 pub mod inner;
 
 // A refusal number, and the length of the plan, 0 where there is none.
-#[derive(Drop)]
+#[derive(Clone, Copy)]
 pub struct Compiled {
     pub refusal: u32,
     pub length: usize,

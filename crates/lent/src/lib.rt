@@ -1,4 +1,6 @@
 // The calls of `inplace` and of `remains` with plain values on both sides: a local is lent to the call, or holds the record.
+#![tactic(auto)]
+
 ghost use Rattle.std.specs.Prelude.{◌≡◌, length};
 ghost use Rattle.reader.specs.Answers.{peek_of, consume_of, refill_of, lower_of, remainder_of, partial_of};
 
@@ -6,7 +8,7 @@ use bits::Order;
 use reader::{Cursor, Moved, Peeked};
 
 // What is left behind a cursor: the bits before the first whole byte, how many and as a number, and how many whole bytes follow.
-#[derive(Drop)]
+#[derive(Clone, Copy)]
 pub struct Rest {
     pub partial_bits: u8,
     pub partial_byte: u8,

@@ -15,7 +15,7 @@ pub const DAY: u64 = 100_000;
 const DEPTH: u64 = 0x8000;
 
 // Whether a line stands at a place, its record, all zeros where there is none, and the place behind it.
-#[derive(Drop)]
+#[derive(Clone, Copy)]
 pub struct LineAt {
     pub good: bool,
     pub record: Record,

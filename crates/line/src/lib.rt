@@ -1,4 +1,6 @@
 // A line of text, and the record that it names.
+#![tactic(auto)]
+
 ghost use Rattle.std.specs.Prelude.{◌≡◌};
 ghost use Rattle.line.specs.Reading.{read_line};
 
@@ -8,7 +10,7 @@ use record::Record;
 pub mod inner;
 
 // A refusal number, and the record that a line names, all zeros where there is none.
-#[derive(Drop)]
+#[derive(Clone, Copy)]
 pub struct LineRead {
     pub refusal: u32,
     pub record: Record,

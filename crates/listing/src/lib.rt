@@ -1,4 +1,6 @@
 // The line of a record.
+#![tactic(auto)]
+
 ghost use Rattle.std.specs.Prelude.{◌≡◌, length};
 ghost use Rattle.listing.specs.Listing.{write_line, write_out};
 
@@ -8,7 +10,7 @@ use record::Record;
 pub mod inner;
 
 // A refusal number, and the length of the line, 0 where there is none.
-#[derive(Drop)]
+#[derive(Clone, Copy)]
 pub struct LineWrote {
     pub refusal: u32,
     pub length: usize,

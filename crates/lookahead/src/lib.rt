@@ -1,8 +1,10 @@
 // A cursor's state over a slice: its counts, and the register that holds its lookahead.
+#![tactic(auto)]
+
 pub mod inner;
 
 // The offset of the first byte not yet fetched, the bits fetched and not yet taken, and the register that holds them.
-#[derive(Drop)]
+#[derive(Clone, Copy)]
 pub struct State {
     pub offset: usize,
     pub lookahead: u32,
@@ -10,7 +12,7 @@ pub struct State {
 }
 
 // A value, and the state after it was taken.
-#[derive(Drop)]
+#[derive(Clone, Copy)]
 pub struct Taken {
     pub value: u64,
     pub state: State,

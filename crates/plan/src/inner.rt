@@ -145,7 +145,7 @@ pub fn run_plan(order: Order, src: &[u8], plan: &[u8], place: usize, results: &m
 // ---- in one go
 
 // What one go through a plan gives: how many fields were read, 65 if it did not get through, and where the last one ends.
-#[derive(Drop)]
+#[derive(Clone, Copy)]
 pub struct Narrow {
     pub fields: usize,
     pub end: usize,

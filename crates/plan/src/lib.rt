@@ -1,4 +1,6 @@
 // Running plans: all fields of a layout in one call.
+#![tactic(auto)]
+
 ghost use Rattle.std.specs.Prelude.{◌≡◌, length};
 ghost use Rattle.plan.specs.Run.{run_of, run_out};
 

@@ -1,5 +1,7 @@
 // Random layouts, compiled and run in both orders from random places up to random ends, against the reader's own answers field by field:
 // values, the place behind, and the refusal where too few bits are left. Writes how many runs agree, of 600.
+#![tactic(auto)]
+
 use bits::Order;
 use reader::Cursor;
 

@@ -98,7 +98,7 @@ pub fn bits_left(src: &[u8], c: Cursor) -> usize
 }
 
 // The whole bytes left behind a cursor that belongs.
-pub fn bytes_left_lem(src: &[u8], c: Cursor) -> usize
+pub fn bytes_left(src: &[u8], c: Cursor) -> usize
     requires { Fits src.now c }
     ensures { result ≡ bytes_left src.now c }
 {
@@ -335,7 +335,7 @@ pub fn bytes_refusal(order: Order, src: &[u8], c: Cursor, n: usize) -> u32
     if own != refusals::DONE {
         return own;
     }
-    if bytes_left_lem(src, c) < n {
+    if bytes_left(src, c) < n {
         return refusals::TOO_FEW;
     }
     refusals::DONE

@@ -2,6 +2,8 @@
 // belongs to it, and hands the cursor that goes on back by value. Behind `new` and `from_parts` the methods stand in the order of the
 // Rust's BitReader; the remainder, which the Rust has outside it, and the end, which it has not, are last. The examples are those of the
 // program example_calls: `start` is a fresh cursor of the slice, `full` a refilled one, `behind` one behind three bits.
+#![tactic(auto)]
+
 ghost use Rattle.std.specs.Prelude.{◌≡◌, ◌+◌, ◌%◌, eqb, leb, length};
 ghost use Rattle.reader.specs.Cursor.{place, bits_left, bytes_left, unfetched};
 ghost use Rattle.reader.specs.Answers.{new_of, read_of, as_bool, as_u8, as_i8, as_u16, as_i16, as_u32, as_i32, as_f32, as_signed, as_f64, counted_of, tested_of, bytes_of, bytes_out, peek_of, consume_of, refill_of, ahead_of, start_of, remainder_of, partial_of, lower_of};
@@ -13,7 +15,7 @@ pub mod inner;
 
 // The offset of the first byte not yet fetched, the bits fetched and not yet taken, and the register that holds them: at its low end
 // in little-endian order, at its high end in big-endian order, the other bits zero. And the bit place at which reading stops.
-#[derive(Drop)]
+#[derive(Clone, Copy)]
 pub struct Cursor {
     pub offset: usize,
     pub lookahead: u32,
@@ -22,77 +24,77 @@ pub struct Cursor {
 }
 
 // The answers of reads: a refusal number, a value (0 where there is none), and the cursor that goes on.
-#[derive(Drop)]
+#[derive(Clone, Copy)]
 pub struct ReadBool {
     pub refusal: u32,
     pub value: bool,
     pub cursor: Cursor,
 }
 
-#[derive(Drop)]
+#[derive(Clone, Copy)]
 pub struct ReadU8 {
     pub refusal: u32,
     pub value: u8,
     pub cursor: Cursor,
 }
 
-#[derive(Drop)]
+#[derive(Clone, Copy)]
 pub struct ReadI8 {
     pub refusal: u32,
     pub value: i8,
     pub cursor: Cursor,
 }
 
-#[derive(Drop)]
+#[derive(Clone, Copy)]
 pub struct ReadU16 {
     pub refusal: u32,
     pub value: u16,
     pub cursor: Cursor,
 }
 
-#[derive(Drop)]
+#[derive(Clone, Copy)]
 pub struct ReadI16 {
     pub refusal: u32,
     pub value: i16,
     pub cursor: Cursor,
 }
 
-#[derive(Drop)]
+#[derive(Clone, Copy)]
 pub struct ReadU32 {
     pub refusal: u32,
     pub value: u32,
     pub cursor: Cursor,
 }
 
-#[derive(Drop)]
+#[derive(Clone, Copy)]
 pub struct ReadI32 {
     pub refusal: u32,
     pub value: i32,
     pub cursor: Cursor,
 }
 
-#[derive(Drop)]
+#[derive(Clone, Copy)]
 pub struct ReadF32 {
     pub refusal: u32,
     pub value: Single,
     pub cursor: Cursor,
 }
 
-#[derive(Drop)]
+#[derive(Clone, Copy)]
 pub struct ReadU64 {
     pub refusal: u32,
     pub value: u64,
     pub cursor: Cursor,
 }
 
-#[derive(Drop)]
+#[derive(Clone, Copy)]
 pub struct ReadI64 {
     pub refusal: u32,
     pub value: i64,
     pub cursor: Cursor,
 }
 
-#[derive(Drop)]
+#[derive(Clone, Copy)]
 pub struct ReadF64 {
     pub refusal: u32,
     pub value: Double,
@@ -100,42 +102,42 @@ pub struct ReadF64 {
 }
 
 // A refusal number, and a count, 0 where there is none.
-#[derive(Drop)]
+#[derive(Clone, Copy)]
 pub struct Counted {
     pub refusal: u32,
     pub value: usize,
 }
 
 // A refusal number, and whether it is so, false where it is not told.
-#[derive(Drop)]
+#[derive(Clone, Copy)]
 pub struct Tested {
     pub refusal: u32,
     pub value: bool,
 }
 
 // A refusal number, and the bits of lookahead.
-#[derive(Drop)]
+#[derive(Clone, Copy)]
 pub struct Ahead {
     pub refusal: u32,
     pub value: u32,
 }
 
 // A refusal number, and the bits that were looked at, 0 where there are none.
-#[derive(Drop)]
+#[derive(Clone, Copy)]
 pub struct Peeked {
     pub refusal: u32,
     pub value: u64,
 }
 
 // A refusal number, and the cursor that goes on: the one that came where the number is not 0.
-#[derive(Drop)]
+#[derive(Clone, Copy)]
 pub struct Moved {
     pub refusal: u32,
     pub cursor: Cursor,
 }
 
 // A refusal number, and the bits before the first whole unread byte: how many, and as a number.
-#[derive(Drop)]
+#[derive(Clone, Copy)]
 pub struct Partial {
     pub refusal: u32,
     pub partial_bits: u8,

@@ -1,4 +1,6 @@
 // The strip record: one estimate of a variable star.
+#![tactic(auto)]
+
 pub mod inner;
 
 // The bits of a record.
@@ -6,7 +8,7 @@ pub const RECORD_BITS: usize = 89;
 
 // A star's number, a Julian Date in 10^-5 day, whether the magnitude is a limit, the magnitude and its error in thousandths, and a
 // filter's number.
-#[derive(Drop)]
+#[derive(Clone, Copy)]
 pub struct Record {
     pub star: u32,
     pub date: u64,

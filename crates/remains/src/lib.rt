@@ -1,4 +1,6 @@
 // What is left of a slice behind a cursor, up to its end, as one record: a partial byte, and the whole bytes after it.
+#![tactic(auto)]
+
 ghost use Rattle.std.specs.Prelude.{◌≡◌, ◌+◌};
 ghost use Rattle.reader.specs.Answers.{start_of, remainder_of, partial_of};
 
@@ -7,7 +9,7 @@ use reader::Cursor;
 
 // The bits before the first whole unread byte, as a number and how many, and the slice from that byte on up to the end. It has no refusal
 // number: `partial` tells it, and all is 0 or empty where there is one.
-#[derive(Drop)]
+#[derive(Clone, Copy)]
 pub struct Remainder<'a> {
     partial_byte: u8,
     partial_bits: u8,

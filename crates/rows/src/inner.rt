@@ -296,7 +296,7 @@ pub fn first_bad(src: &[u8], n: usize) -> usize
 }
 
 // A refusal number, and with 11 the number of the first bad row.
-#[derive(Drop)]
+#[derive(Clone, Copy)]
 pub struct Found {
     pub refusal: u32,
     pub row: usize,

@@ -1,4 +1,6 @@
 // FITS rows: records as rows of a binary table, and back.
+#![tactic(auto)]
+
 ghost use Rattle.std.specs.Prelude.{◌≡◌, length};
 ghost use Rattle.rows.specs.Answers.{row_refusal, row_out, read_of, rows_of, rows_out, packed_of, packed_out};
 
@@ -11,14 +13,14 @@ pub mod inner;
 pub const ROW_LENGTH: usize = 18;
 
 // A refusal number, and a record (of zeros where there is none).
-#[derive(Drop)]
+#[derive(Clone, Copy)]
 pub struct RowRead {
     pub refusal: u32,
     pub found: Record,
 }
 
 // A refusal number, how many bytes of rows were written, and whether the strip's tail is good.
-#[derive(Drop)]
+#[derive(Clone, Copy)]
 pub struct Rows {
     pub refusal: u32,
     pub length: usize,
@@ -26,7 +28,7 @@ pub struct Rows {
 }
 
 // A refusal number, with 11 the number of the first bad row from 1, else 0, the strip's length, and whether the last row is whole.
-#[derive(Drop)]
+#[derive(Clone, Copy)]
 pub struct Packed {
     pub refusal: u32,
     pub row: usize,

@@ -1,4 +1,6 @@
 // FITS rows on standard input, as a strip on standard output: all that is written is the row pack job's answer to all that was read.
+#![tactic(auto)]
+
 ghost use Rattle.std.specs.Prelude.{◌≡◌, ◌<◌, length, take};
 ghost use Rattle.jobs.specs.Jobs.{most_taken, pack_rows_answer};
 

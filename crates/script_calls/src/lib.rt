@@ -1,5 +1,7 @@
 // An interpreter of scripts: lines of text that set up a source, an output, a cursor and a writer, and call the library on them. The
 // format is described in docs/REPLAY.md. What is proved here is that no script traps it.
+#![tactic(auto)]
+
 ghost use Rattle.std.specs.Prelude.{◌≤◌, length};
 ghost use Rattle.io.specs.Counts.{IsPrefixLen};
 
@@ -16,7 +18,7 @@ mod writes;
 
 // Whether the order is little endian, whether calls are made the other way, how many bytes of the source and of the output are in use,
 // the cursor and the writer.
-#[derive(Drop)]
+#[derive(Clone, Copy)]
 struct Machine {
     little: bool,
     other: bool,
@@ -27,7 +29,7 @@ struct Machine {
 }
 
 // What a line calls, if anything.
-#[derive(Drop)]
+#[derive(Clone, Copy)]
 enum Target {
     Cursor,
     Writer,
@@ -35,7 +37,7 @@ enum Target {
 }
 
 // The machine after a line, and the length of the answer; 0 where the line asks nothing.
-#[derive(Drop)]
+#[derive(Clone, Copy)]
 struct Done {
     machine: Machine,
     length: usize,

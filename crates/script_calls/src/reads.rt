@@ -6,7 +6,7 @@ use reader::{Cursor, ReadU64};
 use script_words::inner as words;
 
 // The cursor after a call, and the length of the answer.
-#[derive(Drop)]
+#[derive(Clone, Copy)]
 pub struct Read {
     pub cursor: Cursor,
     pub length: usize,

@@ -6,7 +6,7 @@ use script_words::inner as words;
 use writer::{Writer, Wrote};
 
 // The writer after a call, and the length of the answer.
-#[derive(Drop)]
+#[derive(Clone, Copy)]
 pub struct Written {
     pub writer: Writer,
     pub length: usize,

@@ -3,7 +3,7 @@ ghost use Rattle.std.specs.Prelude.{◌≤◌, ◌<◌, ◌+◌, length};
 ghost use Rattle.io.specs.Counts.{IsPrefixLen};
 
 // A number, and the place behind it.
-#[derive(Drop)]
+#[derive(Clone, Copy)]
 struct Number {
     value: u64,
     next: usize,
@@ -11,7 +11,7 @@ struct Number {
 
 // A line's letter, the three numbers and the count of bytes behind it, of which the ones that it has mean something, and the place of
 // the next line.
-#[derive(Drop)]
+#[derive(Clone, Copy)]
 pub struct Line {
     pub letter: u8,
     pub first: u64,

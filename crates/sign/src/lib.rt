@@ -1,4 +1,6 @@
 // Sign extension, and two's complement for proved callers.
+#![tactic(auto)]
+
 ghost use Rattle.std.specs.Prelude.{◌≡◌};
 ghost use Rattle.sign.specs.Extend.{extend_of};
 
@@ -7,7 +9,7 @@ use bits::refusals;
 pub mod inner;
 
 // A refusal number, and a signed value, 0 where there is none.
-#[derive(Drop)]
+#[derive(Clone, Copy)]
 pub struct Extended {
     pub refusal: u32,
     pub value: i64,

@@ -1,4 +1,6 @@
 // The strip: records of 89 bits, big endian, one behind the other, and zeros up to a byte.
+#![tactic(auto)]
+
 ghost use Rattle.std.specs.Prelude.{◌≡◌, length};
 ghost use Rattle.strip.specs.Answers.{pack_of, pack_out, read_of, strip_of, packed_out, list_of, list_out};
 
@@ -10,7 +12,7 @@ use writer::{Writer, Wrote};
 pub mod inner;
 
 // A refusal number, a record (of zeros where there is none), and the cursor that goes on.
-#[derive(Drop)]
+#[derive(Clone, Copy)]
 pub struct RecordRead {
     pub refusal: u32,
     pub found: Record,
@@ -18,14 +20,14 @@ pub struct RecordRead {
 }
 
 // A refusal number, and the strip's length, 0 where there is none.
-#[derive(Drop)]
+#[derive(Clone, Copy)]
 pub struct Packed {
     pub refusal: u32,
     pub length: usize,
 }
 
 // A refusal number, how many records there are, and whether the bits behind them are under eight and all zero.
-#[derive(Drop)]
+#[derive(Clone, Copy)]
 pub struct StripRead {
     pub refusal: u32,
     pub count: usize,

@@ -1,4 +1,6 @@
 // A strip on standard input, judged on standard output: all that is written is the check job's answer to all that was read.
+#![tactic(auto)]
+
 ghost use Rattle.std.specs.Prelude.{◌≡◌, ◌<◌, length, take};
 ghost use Rattle.jobs.specs.Jobs.{most_taken, check_answer};
 

@@ -1,4 +1,6 @@
 // A strip on standard input, as text on standard output: all that is written is the list job's answer to all that was read.
+#![tactic(auto)]
+
 ghost use Rattle.std.specs.Prelude.{◌≡◌, ◌<◌, length, take};
 ghost use Rattle.jobs.specs.Jobs.{most_taken, list_answer};
 

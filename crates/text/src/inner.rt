@@ -131,7 +131,7 @@ fn has_header(text: &[u8]) -> bool
 }
 
 // How many lines are good before the first bad one, and whether there is none.
-#[derive(Drop)]
+#[derive(Clone, Copy)]
 pub struct Counted {
     pub count: usize,
     pub good: bool,
@@ -157,7 +157,7 @@ fn count_lines(text: &[u8]) -> Counted
 }
 
 // A refusal number, and with 7 the number of the first bad line.
-#[derive(Drop)]
+#[derive(Clone, Copy)]
 pub struct Found {
     pub refusal: u32,
     pub line: usize,

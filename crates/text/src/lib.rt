@@ -1,4 +1,6 @@
 // Whole texts: a strip as text, and a text as a strip.
+#![tactic(auto)]
+
 ghost use Rattle.std.specs.Prelude.{◌≡◌, length};
 ghost use Rattle.text.specs.Answers.{list_of, list_out, pack_of, pack_out};
 
@@ -7,14 +9,14 @@ use bits::refusals;
 pub mod inner;
 
 // A refusal number, and the text's length, 0 where there is none.
-#[derive(Drop)]
+#[derive(Clone, Copy)]
 pub struct Listed {
     pub refusal: u32,
     pub length: usize,
 }
 
 // A refusal number, the strip's length, 0 where there is none, and with refusal 7 the number of the first bad line, else 0.
-#[derive(Drop)]
+#[derive(Clone, Copy)]
 pub struct Packed {
     pub refusal: u32,
     pub length: usize,

@@ -1,4 +1,6 @@
 // Typed values: a value whose case is its kind, read and written in either order.
+#![tactic(auto)]
+
 ghost use Rattle.std.specs.Prelude.{◌≡◌, length};
 ghost use Rattle.typed.specs.Typed.{typed_of, bits_of, kind_of, number_of, same_typed, widened_typed};
 ghost use Rattle.typed.specs.Answers.{answered, read_of, write_of, write_out};
@@ -9,7 +11,7 @@ use reader::Cursor;
 use writer::{Writer, Wrote};
 
 // The four kinds.
-#[derive(Drop)]
+#[derive(Clone, Copy)]
 pub enum Kind {
     Unsigned,
     Signed,
@@ -19,7 +21,7 @@ pub enum Kind {
 
 // A value of a kind. A single or a double keeps every bit pattern, a NaN's too. A value means its bits: a single or a double whose
 // `Bits` are no NaN's is the number with these bits, and no read gives it.
-#[derive(Drop)]
+#[derive(Clone, Copy)]
 pub enum Typed {
     Unsigned(u64),
     Signed(i64),
@@ -28,7 +30,7 @@ pub enum Typed {
 }
 
 // The answer of a typed read: the value and the cursor that goes on, or a refusal number and the cursor that came.
-#[derive(Drop)]
+#[derive(Clone, Copy)]
 pub enum TypedRead {
     Done(Typed, Cursor),
     Refused(u32, Cursor),

@@ -1,4 +1,6 @@
 // Strips from other apps: whether one keeps the rules under which it is filed.
+#![tactic(auto)]
+
 ghost use Rattle.std.specs.Prelude.{◌≡◌};
 ghost use Rattle.vetting.specs.Verdicts.{verdict_of};
 
@@ -8,7 +10,7 @@ pub mod inner;
 
 // What is said of a strip: every record keeps the rules and the tail is good; a record, by its number from 1, breaks a rule, by its number
 // from 1; all records keep the rules and the tail is bad; or a refusal number.
-#[derive(Drop)]
+#[derive(Clone, Copy)]
 pub enum Verdict {
     Fine,
     Broken(usize, u32),

@@ -1,4 +1,6 @@
 // The worked examples that a program runs: a line each, with what the library answers. The file stdout has what they should be.
+#![tactic(auto)]
+
 use bits::Order;
 use reader::Cursor;
 

@@ -1,6 +1,8 @@
 // A writer over a lent output: bits, fields and bytes written in either order. Each method takes the output too, tests that the writer
 // belongs to it, and hands the writer back as a new one with a refusal number; a refusal leaves writer and output as they came. The
 // methods stand in the order of the Rust's BitWriter. The examples are those of the program example_calls: `blank` is a fresh writer.
+#![tactic(auto)]
+
 ghost use Rattle.std.specs.Prelude.{◌≡◌, cond, length};
 ghost use Rattle.floats.specs.Floats.{double_bits};
 ghost use Rattle.writer.specs.Answers.{new_of, write_of, write_out, signed_of, signed_out, retired_of, unaligned_of, bytes_of, bytes_out, flush_of, flush_out};
@@ -11,7 +13,7 @@ use floats::{Double, Single};
 pub mod inner;
 
 // The bytes that are full, and the bits held until they fill a byte: how many, and as a number.
-#[derive(Drop)]
+#[derive(Clone, Copy)]
 pub struct Writer {
     pub written: usize,
     pub held: u32,
@@ -19,14 +21,14 @@ pub struct Writer {
 }
 
 // A refusal number, and the writer that goes on: the one that came where the number is not 0.
-#[derive(Drop)]
+#[derive(Clone, Copy)]
 pub struct Wrote {
     pub refusal: u32,
     pub writer: Writer,
 }
 
 // A refusal number, and the bits written in the current partial byte.
-#[derive(Drop)]
+#[derive(Clone, Copy)]
 pub struct Unaligned {
     pub refusal: u32,
     pub value: u32,

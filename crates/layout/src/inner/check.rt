@@ -26,7 +26,7 @@ fn ends_wide(b: u8) -> bool
 }
 
 // A take: where the step after it is, the take itself, or 0 if there is none that fits, and the known lookahead that it leaves.
-#[derive(Drop)]
+#[derive(Clone, Copy)]
 pub struct Take {
     pub next: usize,
     pub step: u8,

@@ -10,7 +10,7 @@ use crate::inner::steps;
 use bits::refusals;
 
 // Where the next step goes, and the known lookahead.
-#[derive(Drop)]
+#[derive(Clone, Copy)]
 pub struct Put {
     pub at: usize,
     pub known: u32,

@@ -8,7 +8,7 @@ ghost use Rattle.layout.specs.Steps.{one};
 use crate::inner::steps;
 
 // How many fields there are, and how many bits they take.
-#[derive(Drop)]
+#[derive(Clone, Copy)]
 pub struct Size {
     pub fields: usize,
     pub bits: usize,

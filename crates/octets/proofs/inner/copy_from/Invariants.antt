@@ -1,0 +1,13 @@
+-- `copy_from` meets its contract: each turn puts the next byte behind those that stand already (`Upto`). Assumes nothing.
+use mathlib.Core.Path.{refl}
+use Prim.Native.Nat.{◌+◌, ◌-◌}
+use native.Mathlib.Omega.{arith}
+use lib.ListN.{length, get_or, length-set}
+use Rattle.octets.proofs.FirstsLaws.{Upto, upto_none, upto_next, upto_all}
+use Rattle.octets.proofs.inner.copy_from.Given as goal
+
+abbrev pub invariant-loop-i : goal.invariant-loop-i
+invariant-loop-i l = Upto (λ j. get_or l.src (l.at + j) 0) (length l.initial.out) l.out l.i
+
+abbrev pub decreases-loop-i : goal.decreases-loop-i
+decreases-loop-i l = length l.out - l.i
