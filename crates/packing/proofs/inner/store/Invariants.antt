@@ -1,0 +1,19 @@
+-- `store` meets its contract: what is still to be stored from here is what was to be stored at first (`store_step`). Assumes nothing.
+use mathlib.Core.Path.{◌≡◌, refl, ap, ◌∙◌}
+use Prim.Native.Nat.{ℕ, ◌+◌, ◌-◌, ◌*◌, ◌/◌, ◌%◌, ◌^◌, ◌<◌, ◌≤◌}
+use native.Mathlib.Omega.{arith}
+use lib.ListN.{length, set, length-set}
+use lib.Seq.{sets}
+use Rattle.bits.specs.declared.Order.TheVariants.{Little}
+use Rattle.bits.specs.Word.{first, skipped}
+use Rattle.packing.specs.Packing.{bytes_of}
+use Rattle.packing.proofs.HeldLaws.{store_step}
+use Rattle.packing.proofs.inner.store.Given as goal
+
+abbrev pub invariant-loop-k : goal.invariant-loop-k
+invariant-loop-k l =
+    (l.k ≤ l.end) × (l.end - l.k ≤ 8) × (length l.out ≡ length l.initial.out) × (l.v < 2 ^ 64)
+    × (sets l.out l.k (bytes_of Little (l.end - l.k) (64 - 8 * (l.end - l.k)) l.v) ≡ sets l.initial.out l.at (bytes_of Little l.n (64 - 8 * l.n) l.word))
+
+abbrev pub decreases-loop-k : goal.decreases-loop-k
+decreases-loop-k l = l.end - l.k
