@@ -1,0 +1,18 @@
+-- `bytes_remaining` meets its contract: a cursor that is not refused belongs, and its counts give the bytes left. Assumes nothing.
+use mathlib.Core.Path.{sym, ◌∙◌}
+use Rattle.bits.proofs.RefusalLaws.{answer_refused, answer_done}
+use Rattle.reader.proofs.CursorLaws.{refusal_own}
+use Rattle.reader.specs.Answers.{counted_of, counted}
+use Rattle.std.proofs.Common.{rules}
+use Rattle.reader.proofs.Cursor.bytes_remaining.Goals as goal
+
+pub returns-then-refusal-ne-DONE : goal.returns-then-refusal-ne-DONE
+unfolding counted_of
+returns-then-refusal-ne-DONE c = answer_refused c.refusal-refusal.ensures counted _ _ c.if-refusal-ne-DONE.true
+
+pub bytes_left-requires : goal.bytes_left-requires
+bytes_left-requires c = (refusal_own (sym c.refusal-refusal.ensures ∙ c.if-refusal-ne-DONE.false)).fits
+
+pub returns : goal.returns
+unfolding counted_of
+returns c = answer_done c.refusal-refusal.ensures counted _ _ c.if-refusal-ne-DONE.false c.bytes_left.ensures

@@ -1,0 +1,9 @@
+-- `read_bits` meets its contract: whichever the order is, it is handed on twice. Assumes nothing.
+use Rattle.std.proofs.Common.{rules}
+use Rattle.reader.proofs.Cursor.read_bits.Goals as goal
+
+pub returns-in-Little : goal.returns-in-Little
+returns-in-Little c = rw c.in-Little.is c.read_parts.ensures
+
+pub returns-in-Big : goal.returns-in-Big
+returns-in-Big c = rw c.in-Big.is c.read_parts-in-Big.ensures

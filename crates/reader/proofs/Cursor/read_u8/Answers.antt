@@ -1,0 +1,14 @@
+-- `read_u8` meets its contract: a read of 8 bits is below 2 ^ 8, refused or not. Assumes nothing.
+use mathlib.Core.Path.{ap}
+use Rattle.reader.specs.Answers.{as_u8}
+use Rattle.reader.proofs.AnswerLaws.{answered-lt}
+use Rattle.std.proofs.Common.{rules}
+use Rattle.reader.proofs.Cursor.read_u8.Goals as goal
+
+pub overflow_cast-result : goal.overflow_cast-result
+overflow_cast-result c =
+    let a = c.args in
+    record { fits = answered-lt a.order a.src.now a.self 8 c.read_bits-read.ensures }
+
+pub returns : goal.returns
+returns c = ap as_u8 c.read_bits-read.ensures
