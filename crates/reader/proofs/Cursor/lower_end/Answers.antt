@@ -10,4 +10,4 @@ returns-then-refusal-ne-DONE c = answer_refused c.lower_refusal-refusal.ensures 
 
 pub returns : goal.returns
 unfolding lower_of
-returns c = answer_done c.lower_refusal-refusal.ensures moved _ _ c.if-refusal-ne-DONE.false c.Ending-at.ensures
+returns c = answer_done c.lower_refusal-refusal.ensures moved _ _ c.if-refusal-ne-DONE.false c.ending_at.ensures

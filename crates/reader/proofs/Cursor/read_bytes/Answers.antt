@@ -24,10 +24,9 @@ read_bytes-requires c =
 pub returns : goal.returns
 unfolding bytes_of bytes_out
 returns c =
-    let r = (c.read_bytes.ensures.answer, c.read_bytes.ensures.memory) in
     let e = c.bytes_refusal-refusal.ensures in
     let z = c.if-refusal-ne-DONE.false in
     record {
-      answer = answer_done e moved _ _ z r.0;
-      memory = r.1 ∙ if_done_lem e _ _ z;
+      answer = answer_done e moved _ _ z c.read_bytes.ensures.answer;
+      memory = c.read_bytes.ensures.memory ∙ if_done_lem e _ _ z;
     }

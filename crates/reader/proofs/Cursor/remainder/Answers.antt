@@ -22,7 +22,7 @@ returns-then-refusal-ne-DONE c =
     let start : 0 ≡ start_of a.order a.src.now a.self = if_refused f _ _ z in
     record {
       bytes = if_refused f _ _ z;
-      memory = (refl, sym (add-zero _) ∙ ap (λ (k : ℕ). a.src.ptr.1 + k) start);
+      memory = (refl, sym (add-zero _) ∙ ap (λ (k : ℕ). a.src.ref_ptr.1 + k) start);
     }
 
 -- a cursor that is not refused belongs, and its end is that of a byte
@@ -41,13 +41,13 @@ slice_bounds-result-count c =
     let (h, whole) = granted_2 c in
     omega (arith, h.fits.within.behind, h.fits.reached, h.fits.stops, whole)
 
-pub slice-bounds-result-start : goal.slice-bounds-result-start
-slice-bounds-result-start c =
-    let (h, whole) = granted_3 c in
+pub slice_bounds-result-start : goal.slice_bounds-result-start
+slice_bounds-result-start c =
+    let (h, whole) = remainder_granted _ _ _ (sym c.remainder_refusal-refusal.ensures ∙ c.if-refusal-ne-DONE.false) in
     omega (arith, h.fits.within.behind, h.fits.reached, h.fits.stops, whole)
 
-pub slice-bounds-result-end : goal.slice-bounds-result-end
-slice-bounds-result-end c = let (h, whole) = granted_3 c in omega (arith, h.fits.stops)
+pub slice_bounds-result-end-2 : goal.slice_bounds-result-end-2
+slice_bounds-result-end-2 c = let (h, whole) = remainder_granted _ _ _ (sym c.remainder_refusal-refusal.ensures ∙ c.if-refusal-ne-DONE.false) in omega (arith, h.fits.stops)
 
 -- a cursor that is not refused belongs, and its end is that of a byte
 granted_4 : (c : After-result-1) → let a = c.args in Own a.order a.src.now a.self × (a.self.end % 8 ≡ 0)
@@ -64,5 +64,5 @@ returns c =
       bytes = part_slice a.src.now (a.self.offset - a.self.lookahead / 8) (a.self.end / 8) (omega (arith, h.fits.within.behind, h.fits.reached, whole)) (omega (arith, h.fits.stops))
           ∙ ap (λ (k : ℕ). slice k (a.self.end / 8) a.src.now) start
           ∙ if_done_lem f _ _ z;
-      memory = (refl, add_comm _ _ ∙ ap (λ (k : ℕ). a.src.ptr.1 + k) start);
+      memory = (refl, add_comm _ _ ∙ ap (λ (k : ℕ). a.src.ref_ptr.1 + k) start);
     }

@@ -5,6 +5,8 @@ use native.Mathlib.Nat.{le_trans}
 use native.Mathlib.Omega.{arith}
 use lib.ListN.{length}
 use Rattle.bits.specs.Refusals.{done}
+use mathlib.Core.List.{List}
+use Rattle.bits.specs.declared.Order.{Order}
 use Rattle.bits.specs.Field.{join, field}
 use Rattle.bits.proofs.FieldLaws.{field_lt}
 use Rattle.counts.specs.Counts.{after_refill, after_read}
