@@ -59,7 +59,7 @@ fourth_1 : (c : After-put_fixed-arg-2-1) →
 fourth_1 c =
     let t = c in
     let s = t in
-    rw (to_z-of_z w16 s.args.r.magnitude (record { sfits = s.requires.0.magnitude })) at (c.put_magnitude-at4.ensures.answer, c.put_magnitude-at4.ensures.memory)
+    (rw (to_z-of_z w16 s.args.r.magnitude (record { sfits = s.requires.0.magnitude })) at c.put_magnitude-at4.ensures.answer, rw (to_z-of_z w16 s.args.r.magnitude (record { sfits = s.requires.0.magnitude })) at c.put_magnitude-at4.ensures.memory)
 
 pub put_fixed-at5-requires : goal.put_fixed-at5-requires
 put_fixed-at5-requires c =
@@ -94,7 +94,7 @@ fourth_2 : (c : After-struct_known-5-1) →
 fourth_2 c =
     let t = c in
     let s = t in
-    rw (to_z-of_z w16 s.args.r.magnitude (record { sfits = s.requires.0.magnitude })) at (c.put_magnitude-at4.ensures.answer, c.put_magnitude-at4.ensures.memory)
+    (rw (to_z-of_z w16 s.args.r.magnitude (record { sfits = s.requires.0.magnitude })) at c.put_magnitude-at4.ensures.answer, rw (to_z-of_z w16 s.args.r.magnitude (record { sfits = s.requires.0.magnitude })) at c.put_magnitude-at4.ensures.memory)
 
 pub put_whole-requires : goal.put_whole-requires
 put_whole-requires c =
@@ -139,7 +139,7 @@ fourth_3 : (c : After-slice_known-7-1) →
 fourth_3 c =
     let t = c in
     let s = t in
-    rw (to_z-of_z w16 s.args.r.magnitude (record { sfits = s.requires.0.magnitude })) at (c.put_magnitude-at4.ensures.answer, c.put_magnitude-at4.ensures.memory)
+    (rw (to_z-of_z w16 s.args.r.magnitude (record { sfits = s.requires.0.magnitude })) at c.put_magnitude-at4.ensures.answer, rw (to_z-of_z w16 s.args.r.magnitude (record { sfits = s.requires.0.magnitude })) at c.put_magnitude-at4.ensures.memory)
 
 pub returns : goal.returns
 returns c =

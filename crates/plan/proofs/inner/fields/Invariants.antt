@@ -1,0 +1,22 @@
+-- `fields` meets its contract: at each field, what the others will give gives what all of them give. Assumes nothing.
+use Prim.Native.Nat.{◌+◌, ◌-◌, ◌*◌, ◌%◌, ◌<◌, ◌≤◌}
+use mathlib.Core.Path.{◌≡◌, refl}
+use mathlib.Core.Bool.{true}
+use mathlib.Core.List.{[], ◌∷◌}
+use native.Mathlib.Omega.{arith}
+use lib.ListN.{length, drop, get_or}
+use Rattle.bits.proofs.FieldLaws.{field_lt}
+use borrow.Author.Tests.{leb-true}
+use Rattle.layout.specs.Layout.{item, items_of, good_items, bits_of}
+use Rattle.layout.proofs.LayoutLaws.{good_of, is_layout_of, length_items, bits_most, items_at, items_end}
+use Rattle.plan.proofs.Reading.{Left, start, inside, room, next, finish}
+use Rattle.plan.proofs.inner.fields.Given as goal
+
+abbrev pub invariant-loop-i : goal.invariant-loop-i
+invariant-loop-i l =
+    (l.i ≤ length l.layout) × (l.i % 2 ≡ 0) × (l.inside ≡ true → l.place + bits_of (items_of l.layout) + 64 ≤ 8 * length l.src)
+    × (good_items (items_of (drop l.i l.layout)) ≡ true)
+    × Left l.order l.src l.place (items_of l.layout) l.initial.results (items_of (drop l.i l.layout)) l.at l.j l.results
+
+abbrev pub decreases-loop-i : goal.decreases-loop-i
+decreases-loop-i l = length l.layout - l.i

@@ -1,0 +1,20 @@
+-- `kind_number` meets its contract: the value's case is its kind. Assumes nothing.
+use Rattle.typed.specs.Typed.{kind_of, number_of}
+use Rattle.std.proofs.Common.{rules}
+use Rattle.typed.proofs.kind_number.Goals as goal
+
+pub returns-in-Unsigned : goal.returns-in-Unsigned
+unfolding kind_of number_of
+returns-in-Unsigned c = rw c.in-Unsigned.is
+
+pub returns-in-Signed : goal.returns-in-Signed
+unfolding kind_of number_of
+returns-in-Signed c = rw c.in-Signed.is
+
+pub returns-in-Single : goal.returns-in-Single
+unfolding kind_of number_of
+returns-in-Single c = rw c.in-Single.is
+
+pub returns-in-Double : goal.returns-in-Double
+unfolding kind_of number_of
+returns-in-Double c = rw c.in-Double.is
