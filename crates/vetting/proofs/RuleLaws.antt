@@ -76,6 +76,7 @@ module _ (above : ℕ) (r : Record) where
           let date = at_most _ _ _ z in
           let filter = at_most _ _ _ y in
           rw e (λ q h. (λ _. date, λ _. filter, λ f. absurd (omega arith)), λ h. false≢true (sym (failed_alone r.error r.limit (h.2 refl)) ∙ e))
+      by k (later z (later y (later _ none))) = elim none [ ]
 
   -- and a number of which that holds is that rule's
   pub rule_unique : (k : ℕ) → ((q : ℕ) → q < k → Kept above r q) → (Kept above r k → ⊥) → rule_broken above r ≡ k

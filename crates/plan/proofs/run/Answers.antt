@@ -79,7 +79,7 @@ ready_1 : (c : Else-refusal-ne-DONE) →
 ready_1 c = granted _ _ _ _ _ (sym (found_2 c) ∙ c.if-refusal-ne-DONE.false)
 
 pub place_of-place-requires : goal.place_of-place-requires
-place_of-place-requires c = (ready_1 c).belongs.ranges
+place_of-place-requires c = (ready_1 c).belongs.fits
 
 -- ---- step by step
 -- the results are as they were
@@ -145,7 +145,7 @@ pub returns : goal.returns
 returns c =
     let both = (let k = c in
     let a = k.args in
-    let ran = (rw c.place_of-place.ensures at c.run_plan-end.ensures.answer, rw c.place_of-place.ensures at c.run_plan-end.ensures.memory) in
-    let end = c.gone_to-2.ensures ∙ ap (gone_to a.order a.src.now a.cursor) ran.0 in
-    let out = ran.1 ∙ ap (λ (l : List ℕ). sets l 0 (values_of a.order a.src.now (place a.cursor) (fields_of a.plan.now))) (same_5 k) in
+    let ran₀ = rw c.place_of-place.ensures at c.run_plan-end.ensures.answer in let ran₁ = rw c.place_of-place.ensures at c.run_plan-end.ensures.memory in
+    let end = c.gone_to-2.ensures ∙ ap (gone_to a.order a.src.now a.cursor) ran₀ in
+    let out = ran₁ ∙ ap (λ (l : List ℕ). sets l 0 (values_of a.order a.src.now (place a.cursor) (fields_of a.plan.now))) (same_5 k) in
     run-done _ _ _ _ _ (found_5 k) k.if-refusal-ne-DONE.false end out) in record { answer = both.0; memory = both.1 }

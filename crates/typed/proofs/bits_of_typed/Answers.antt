@@ -15,7 +15,7 @@ pub returns-in-Signed : goal.returns-in-Signed
 unfolding bits_of
 returns-in-Signed c =
     rw c.in-Signed.is
-    (c.bits_of_signed.ensures ∙ ap (pattern 64) (to_z-of_z w64 _ (record { sfits = c.known_told-in-Signed-1.given.0.1 })))
+    (c.bits_of_signed.ensures ∙ ap (pattern 64) (to_z-of_z w64 _ (record { sfits = search rules })))
 
 pub returns-in-Single : goal.returns-in-Single
 unfolding bits_of

@@ -14,7 +14,7 @@ returns-in-Unsigned c = rw c.in-Unsigned.is
 pub returns-in-Signed : goal.returns-in-Signed
 unfolding widened_typed
 returns-in-Signed c =
-    rw c.in-Signed.is (ap T.Signed (to_z-of_z w64 _ (record { sfits = c.known_told-in-Signed-1.given.0.1 })))
+    rw c.in-Signed.is (ap T.Signed (to_z-of_z w64 _ (record { sfits = search rules })))
 
 pub returns-in-Single : goal.returns-in-Single
 unfolding widened_typed

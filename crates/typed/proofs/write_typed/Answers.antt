@@ -17,7 +17,10 @@ pub returns-in-Signed : goal.returns-in-Signed
 unfolding write_of write_out
 returns-in-Signed c =
     rw c.in-Signed.is
-    (let both = ((rw (to_z-of_z w64 _ (record { sfits = c.known_told-in-Signed-1.given.0.1 })) at c.write_signed_bits.ensures.answer, rw (to_z-of_z w64 _ (record { sfits = c.known_told-in-Signed-1.given.0.1 })) at c.write_signed_bits.ensures.memory)) in record { answer = both.0; memory = both.1 })
+    (record {
+      answer = rw (to_z-of_z w64 c.in-Signed.z (record { sfits = search rules })) at c.write_signed_bits.ensures.answer;
+      memory = rw (to_z-of_z w64 c.in-Signed.z (record { sfits = search rules })) at c.write_signed_bits.ensures.memory;
+    })
 
 pub returns-in-Single : goal.returns-in-Single
 unfolding write_of write_out

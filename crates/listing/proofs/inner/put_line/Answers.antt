@@ -150,8 +150,5 @@ returns c =
     let d = t in
     let a = d in
     let s = a in
-    line_put s.args.r s.args.out.now s.args.at (a.put_whole-at1.ensures.answer, a.put_whole-at1.ensures.memory) (d.put_fixed-at2.ensures.answer, d.put_fixed-at2.ensures.memory) (t.put_whole-at3.ensures.answer, t.put_whole-at3.ensures.memory) (fourth_3 m)
-    (w.put_fixed-at5.ensures.answer, w.put_fixed-at5.ensures.memory) (record {
-      answer = f.put_whole.ensures.answer;
-      memory = f.put_whole.ensures.memory;
-    })
+    let both = line_put s.args.r s.args.out.now s.args.at (a.put_whole-at1.ensures.answer, a.put_whole-at1.ensures.memory) (d.put_fixed-at2.ensures.answer, d.put_fixed-at2.ensures.memory) (t.put_whole-at3.ensures.answer, t.put_whole-at3.ensures.memory) (fourth_3 m)
+    (w.put_fixed-at5.ensures.answer, w.put_fixed-at5.ensures.memory) (f.put_whole.ensures.answer, f.put_whole.ensures.memory) in record { answer = both.0; memory = both.1 }

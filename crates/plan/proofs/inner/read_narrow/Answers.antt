@@ -4,7 +4,7 @@ use Prim.Native.Nat.{◌+◌, ◌-◌, ◌*◌, ◌<◌, ◌≤◌}
 use mathlib.Core.Path.{◌≡◌, refl, sym, ◌∙◌}
 use mathlib.Core.Bool.{true}
 use mathlib.Core.List.{[]}
-use mathlib.Core.Logic.{⊎_elim}
+
 use native.Mathlib.Omega.{arith}
 use lib.ListN.{length, drop, get_or}
 use lib.Seq.{drop-length}
@@ -19,7 +19,7 @@ use Rattle.plan.specs.Run.{fields_of}
 use Rattle.plan.proofs.Reading.{Left, start, next, finish}
 use Rattle.std.proofs.Common.{rules}
 use Rattle.plan.proofs.inner.read_narrow.Goals as goal
-use Rattle.plan.proofs.inner.read_narrow.Goals.{After-pattern, After-row_known-1, After-row_known-then-ends-1, After-shared_slice_known-in-loop-i-2-1-unread, After-whole_field, Else-j-eq64}
+use Rattle.plan.proofs.inner.read_narrow.Goals.{then-plan-i-eq0+then-wanted, else-plan-i-eq0, After-pattern, After-row_known-1, After-row_known-then-ends-1, After-shared_slice_known-in-loop-i-2-1-unread, After-whole_field, Else-j-eq64}
 
 pub loop-i-init : goal.loop-i-init
 loop-i-init c = (omega arith, omega arith, omega arith, omega arith, refl, start)
@@ -44,10 +44,10 @@ ready_1 c =
     let l = c.loop-i in
     let plan = c.args.plan.now in
     let there = c.loop-i-test.true in
-    ⊎_elim
-    (λ w. let (more, low) = w.1.ensures w.2.taken in rw (w.3, w.4) (ready_late plan l.i l.g there w.0.taken more low))
-    (λ w. rw (w.1, w.2) (ready_plain plan l.i l.g there l.invariant.2 w.0.left))
-    c.if-plan-i-eq0.branch
+    elim c.if-plan-i-eq0.branch [
+      then-plan-i-eq0+then-wanted w ↦ let (more, low) = w.wanted.ensures w.if-wanted.true in rw (w.i-is, w.g-is) (ready_late plan l.i l.g there w.if-plan-i-eq0.true more low)
+      | else-plan-i-eq0 w ↦ rw (w.i-is, w.g-is) (ready_plain plan l.i l.g there l.invariant.2 w.if-plan-i-eq0.false)
+    ]
 
 pub bounds-plan-i-in-loop-i : goal.bounds-plan-i-in-loop-i
 bounds-plan-i-in-loop-i c = (ready_1 c).there
@@ -74,10 +74,10 @@ ready_2 c =
     let l = c.loop-i in
     let plan = c.args.plan.now in
     let there = c.loop-i-test.true in
-    ⊎_elim
-    (λ w. let (more, low) = w.1.ensures w.2.taken in rw (w.3, w.4) (ready_late plan l.i l.g there w.0.taken more low))
-    (λ w. rw (w.1, w.2) (ready_plain plan l.i l.g there l.invariant.2 w.0.left))
-    c.if-plan-i-eq0.branch
+    elim c.if-plan-i-eq0.branch [
+      then-plan-i-eq0+then-wanted w ↦ let (more, low) = w.wanted.ensures w.if-wanted.true in rw (w.i-is, w.g-is) (ready_late plan l.i l.g there w.if-plan-i-eq0.true more low)
+      | else-plan-i-eq0 w ↦ rw (w.i-is, w.g-is) (ready_plain plan l.i l.g there l.invariant.2 w.if-plan-i-eq0.false)
+    ]
 
 -- ---- a field that is read
 -- its take is of at most the known bits, and ends it
@@ -105,10 +105,10 @@ ready_3 c =
     let l = c.loop-i in
     let plan = c.args.plan.now in
     let there = c.loop-i-test.true in
-    ⊎_elim
-    (λ w. let (more, low) = w.1.ensures w.2.taken in rw (w.3, w.4) (ready_late plan l.i l.g there w.0.taken more low))
-    (λ w. rw (w.1, w.2) (ready_plain plan l.i l.g there l.invariant.2 w.0.left))
-    c.if-plan-i-eq0.branch
+    elim c.if-plan-i-eq0.branch [
+      then-plan-i-eq0+then-wanted w ↦ let (more, low) = w.wanted.ensures w.if-wanted.true in rw (w.i-is, w.g-is) (ready_late plan l.i l.g there w.if-plan-i-eq0.true more low)
+      | else-plan-i-eq0 w ↦ rw (w.i-is, w.g-is) (ready_plain plan l.i l.g there l.invariant.2 w.if-plan-i-eq0.false)
+    ]
 
 -- ---- a field that is read
 -- its take is of at most the known bits, and ends it
@@ -140,10 +140,10 @@ ready_4 c =
     let l = c.loop-i in
     let plan = c.args.plan.now in
     let there = c.loop-i-test.true in
-    ⊎_elim
-    (λ w. let (more, low) = w.1.ensures w.2.taken in rw (w.3, w.4) (ready_late plan l.i l.g there w.0.taken more low))
-    (λ w. rw (w.1, w.2) (ready_plain plan l.i l.g there l.invariant.2 w.0.left))
-    c.if-plan-i-eq0.branch
+    elim c.if-plan-i-eq0.branch [
+      then-plan-i-eq0+then-wanted w ↦ let (more, low) = w.wanted.ensures w.if-wanted.true in rw (w.i-is, w.g-is) (ready_late plan l.i l.g there w.if-plan-i-eq0.true more low)
+      | else-plan-i-eq0 w ↦ rw (w.i-is, w.g-is) (ready_plain plan l.i l.g there l.invariant.2 w.if-plan-i-eq0.false)
+    ]
 
 -- ---- a field that is read
 -- its take is of at most the known bits, and ends it
@@ -175,10 +175,10 @@ ready_5 c =
     let l = c.loop-i in
     let plan = c.args.plan.now in
     let there = c.loop-i-test.true in
-    ⊎_elim
-    (λ w. let (more, low) = w.1.ensures w.2.taken in rw (w.3, w.4) (ready_late plan l.i l.g there w.0.taken more low))
-    (λ w. rw (w.1, w.2) (ready_plain plan l.i l.g there l.invariant.2 w.0.left))
-    c.if-plan-i-eq0.branch
+    elim c.if-plan-i-eq0.branch [
+      then-plan-i-eq0+then-wanted w ↦ let (more, low) = w.wanted.ensures w.if-wanted.true in rw (w.i-is, w.g-is) (ready_late plan l.i l.g there w.if-plan-i-eq0.true more low)
+      | else-plan-i-eq0 w ↦ rw (w.i-is, w.g-is) (ready_plain plan l.i l.g there l.invariant.2 w.if-plan-i-eq0.false)
+    ]
 
 pub overflow_add-i-then-ends : goal.overflow_add-i-then-ends
 overflow_add-i-then-ends c = omega (arith, (ready_5 c).there)
@@ -198,10 +198,10 @@ ready_6 c =
     let l = c.loop-i in
     let plan = c.args.plan.now in
     let there = c.loop-i-test.true in
-    ⊎_elim
-    (λ w. let (more, low) = w.1.ensures w.2.taken in rw (w.3, w.4) (ready_late plan l.i l.g there w.0.taken more low))
-    (λ w. rw (w.1, w.2) (ready_plain plan l.i l.g there l.invariant.2 w.0.left))
-    c.if-plan-i-eq0.branch
+    elim c.if-plan-i-eq0.branch [
+      then-plan-i-eq0+then-wanted w ↦ let (more, low) = w.wanted.ensures w.if-wanted.true in rw (w.i-is, w.g-is) (ready_late plan l.i l.g there w.if-plan-i-eq0.true more low)
+      | else-plan-i-eq0 w ↦ rw (w.i-is, w.g-is) (ready_plain plan l.i l.g there l.invariant.2 w.if-plan-i-eq0.false)
+    ]
 
 pub loop-i-smaller : goal.loop-i-smaller
 loop-i-smaller c =

@@ -139,9 +139,9 @@ pub returns-in-Little : goal.returns-in-Little
 returns-in-Little c =
     let k = c in
     let at = k.place_of-place.ensures in
-    let ran = (c.run_narrow.ensures.answer, c.run_narrow.ensures.memory) in record {
-      answer = λ h. let (passes, fits, end, within) = ran.0 h in (accepted_1 k passes fits (omega (arith, end, within)), omega (arith, end, at));
-      memory = (λ h. rw (c.in-Little.is, ← at) (ran.1.0 h), λ h. ran.1.1 h);
+    let ran₀ = c.run_narrow.ensures.answer in let ran₁ = c.run_narrow.ensures.memory in record {
+      answer = λ h. let (passes, fits, end, within) = ran₀ h in (accepted_1 k passes fits (omega (arith, end, within)), omega (arith, end, at));
+      memory = (λ h. rw (c.in-Little.is, ← at) (ran₁.0 h), λ h. ran₁.1 h);
     }
 
 -- the cursor is not refused, and belongs
@@ -166,7 +166,7 @@ pub returns-in-Big : goal.returns-in-Big
 returns-in-Big c =
     let k = c in
     let at = k.place_of-place.ensures in
-    let ran = (c.run_narrow-in-Big.ensures.answer, c.run_narrow-in-Big.ensures.memory) in record {
-      answer = λ h. let (passes, fits, end, within) = ran.0 h in (accepted_2 k passes fits (omega (arith, end, within)), omega (arith, end, at));
-      memory = (λ h. rw (c.in-Big.is, ← at) (ran.1.0 h), λ h. ran.1.1 h);
+    let ran₀ = c.run_narrow-in-Big.ensures.answer in let ran₁ = c.run_narrow-in-Big.ensures.memory in record {
+      answer = λ h. let (passes, fits, end, within) = ran₀ h in (accepted_2 k passes fits (omega (arith, end, within)), omega (arith, end, at));
+      memory = (λ h. rw (c.in-Big.is, ← at) (ran₁.0 h), λ h. ran₁.1 h);
     }

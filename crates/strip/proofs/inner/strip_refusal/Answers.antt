@@ -12,20 +12,20 @@ use Rattle.strip.specs.Answers.{strip_refusal}
 use Rattle.strip.proofs.ListLaws.{whole_records}
 use Rattle.std.proofs.Common.{rules}
 use Rattle.strip.proofs.inner.strip_refusal.Goals as goal
-use Rattle.strip.proofs.inner.strip_refusal.Goals.{Else-all_fit, Else-len-n, Joined-n-there, Then-len-n, Then-there-n}
+use Rattle.strip.proofs.inner.strip_refusal.Goals.{Else-all_fit, Else-len-n, Joined-n-there, Then-len-n, Then-there-n, then-n-there, else-n-there}
 
 pub returns-then-len-gt-LONGEST : goal.returns-then-len-gt-LONGEST
 unfolding strip_refusal first_refusal or_else
 returns-then-len-gt-LONGEST c = rw (lt-ltb _ _ c.if-len-gt-LONGEST.true)
 
 there_is_1 : (c : Joined-n-there) → let a = c.args in c.if-n-there.there ≡ min a.n (length a.numbers.now / 6)
-there_is_1 c = ⊎_elim (λ w. omega arith) (λ w. omega arith) c.if-n-there.branch
+there_is_1 c = elim c.if-n-there.branch [ then-n-there w ↦ omega arith | else-n-there w ↦ omega arith ]
 
 pub all_fit-requires : goal.all_fit-requires
 all_fit-requires c = omega (arith, there_is_1 c)
 
 there_is_2 : (c : Then-there-n) → let a = c.args in c.if-n-there.there ≡ min a.n (length a.numbers.now / 6)
-there_is_2 c = ⊎_elim (λ w. omega arith) (λ w. omega arith) c.if-n-there.branch
+there_is_2 c = elim c.if-n-there.branch [ then-n-there w ↦ omega arith | else-n-there w ↦ omega arith ]
 
 -- what was found of those that are there holds of all
 all_is_1 : (c : Then-there-n) → let a = c.args in c.all_fit.result ≡ all_fit (records_in a.n a.numbers.now)
@@ -46,7 +46,7 @@ returns-then-there-n c =
     )
 
 there_is_3 : (c : Then-len-n) → let a = c.args in c.if-n-there.there ≡ min a.n (length a.numbers.now / 6)
-there_is_3 c = ⊎_elim (λ w. omega arith) (λ w. omega arith) c.if-n-there.branch
+there_is_3 c = elim c.if-n-there.branch [ then-n-there w ↦ omega arith | else-n-there w ↦ omega arith ]
 
 -- what was found of those that are there holds of all
 all_is_2 : (c : Then-len-n) → let a = c.args in c.all_fit.result ≡ all_fit (records_in a.n a.numbers.now)
@@ -69,7 +69,7 @@ returns-then-len-n c =
     )
 
 there_is_4 : (c : Else-len-n) → let a = c.args in c.if-n-there.there ≡ min a.n (length a.numbers.now / 6)
-there_is_4 c = ⊎_elim (λ w. omega arith) (λ w. omega arith) c.if-n-there.branch
+there_is_4 c = elim c.if-n-there.branch [ then-n-there w ↦ omega arith | else-n-there w ↦ omega arith ]
 
 -- what was found of those that are there holds of all
 all_is_3 : (c : Else-len-n) → let a = c.args in c.all_fit.result ≡ all_fit (records_in a.n a.numbers.now)
@@ -92,7 +92,7 @@ returns-then-all_fit c =
     )
 
 there_is_5 : (c : Else-all_fit) → let a = c.args in c.if-n-there.there ≡ min a.n (length a.numbers.now / 6)
-there_is_5 c = ⊎_elim (λ w. omega arith) (λ w. omega arith) c.if-n-there.branch
+there_is_5 c = elim c.if-n-there.branch [ then-n-there w ↦ omega arith | else-n-there w ↦ omega arith ]
 
 -- what was found of those that are there holds of all
 all_is_4 : (c : Else-all_fit) → let a = c.args in c.all_fit.result ≡ all_fit (records_in a.n a.numbers.now)

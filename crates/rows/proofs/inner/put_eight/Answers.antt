@@ -1,0 +1,62 @@
+-- `put_eight` meets its contract: each row stands behind those before it (`one_more`). Assumes nothing.
+use Prim.Native.Nat.{◌*◌}
+use native.Mathlib.Omega.{arith}
+use lib.Seq.{length-sets}
+use Rattle.rows.proofs.StripRowsLaws.{no_row, one_more}
+use Rattle.std.proofs.Common.{rules}
+use Rattle.rows.proofs.inner.put_eight.Goals as goal
+
+pub put_nth-requires-2 : goal.put_nth-requires-2
+put_nth-requires-2 c =
+    let h = put-nth-requires c κs in
+    (h.0, omega arith, rw (c.put_nth.ensures, length-sets) h.2)
+
+pub put_nth-requires-3 : goal.put_nth-requires-3
+put_nth-requires-3 c =
+    let h = put-nth-requires-2 c κs in
+    (h.0, omega arith, rw (c.put_nth-2.ensures, length-sets) h.2)
+
+pub put_nth-requires-4 : goal.put_nth-requires-4
+put_nth-requires-4 c =
+    let h = put-nth-requires-3 c κs in
+    (h.0, omega arith, rw (c.put_nth-3.ensures, length-sets) h.2)
+
+pub put_nth-requires-5 : goal.put_nth-requires-5
+put_nth-requires-5 c =
+    let h = put-nth-requires-4 c κs in
+    (h.0, omega arith, rw (c.put_nth-4.ensures, length-sets) h.2)
+
+pub put_nth-requires-6 : goal.put_nth-requires-6
+put_nth-requires-6 c =
+    let h = put-nth-requires-5 c κs in
+    (h.0, omega arith, rw (c.put_nth-5.ensures, length-sets) h.2)
+
+pub put_nth-requires-7 : goal.put_nth-requires-7
+put_nth-requires-7 c =
+    let h = put-nth-requires-6 c κs in
+    (h.0, omega arith, rw (c.put_nth-6.ensures, length-sets) h.2)
+
+pub put_nth-requires-8 : goal.put_nth-requires-8
+put_nth-requires-8 c =
+    let h = put-nth-requires-7 c κs in
+    (h.0, omega arith, rw (c.put_nth-7.ensures, length-sets) h.2)
+
+pub returns : goal.returns
+returns c =
+    let eighth = c in
+    let seventh = eighth in
+    let sixth = seventh in
+    let fifth = sixth in
+    let fourth = fifth in
+    let third = fourth in
+    let second = third in
+    let first = second in
+    let a = first.args in
+    let more = one_more a.src.now a.out.now (8 * a.byte) a.at in
+    let two = more 1 _ _ (more 0 _ _ (no_row a.src.now a.out.now (8 * a.byte) a.at) first.put_nth.ensures) second.put_nth-2.ensures in
+    let four = more 3 _ _ (more 2 _ _ two third.put_nth-3.ensures) fourth.put_nth-4.ensures in
+    let six = more 5 _ _ (more 4 _ _ four fifth.put_nth-5.ensures) sixth.put_nth-6.ensures in
+    more 7 _ _ (more 6 _ _ six seventh.put_nth-7.ensures) eighth.put_nth-8.ensures
+
+pub shape_of-out : goal.shape_of-out
+shape_of-out c = rw (returns c, length-sets)
