@@ -6,41 +6,6 @@ use Rattle.rows.proofs.StripRowsLaws.{no_row, one_more}
 use Rattle.std.proofs.Common.{rules}
 use Rattle.rows.proofs.inner.put_eight.Goals as goal
 
-pub put_nth-requires-2 : goal.put_nth-requires-2
-put_nth-requires-2 c =
-    let h = put-nth-requires c κs in
-    (h.0, omega arith, rw (c.put_nth.ensures, length-sets) h.2)
-
-pub put_nth-requires-3 : goal.put_nth-requires-3
-put_nth-requires-3 c =
-    let h = put-nth-requires-2 c κs in
-    (h.0, omega arith, rw (c.put_nth-2.ensures, length-sets) h.2)
-
-pub put_nth-requires-4 : goal.put_nth-requires-4
-put_nth-requires-4 c =
-    let h = put-nth-requires-3 c κs in
-    (h.0, omega arith, rw (c.put_nth-3.ensures, length-sets) h.2)
-
-pub put_nth-requires-5 : goal.put_nth-requires-5
-put_nth-requires-5 c =
-    let h = put-nth-requires-4 c κs in
-    (h.0, omega arith, rw (c.put_nth-4.ensures, length-sets) h.2)
-
-pub put_nth-requires-6 : goal.put_nth-requires-6
-put_nth-requires-6 c =
-    let h = put-nth-requires-5 c κs in
-    (h.0, omega arith, rw (c.put_nth-5.ensures, length-sets) h.2)
-
-pub put_nth-requires-7 : goal.put_nth-requires-7
-put_nth-requires-7 c =
-    let h = put-nth-requires-6 c κs in
-    (h.0, omega arith, rw (c.put_nth-6.ensures, length-sets) h.2)
-
-pub put_nth-requires-8 : goal.put_nth-requires-8
-put_nth-requires-8 c =
-    let h = put-nth-requires-7 c κs in
-    (h.0, omega arith, rw (c.put_nth-7.ensures, length-sets) h.2)
-
 pub returns : goal.returns
 returns c =
     let eighth = c in

@@ -25,8 +25,8 @@ loop-k-init c = (omega arith, omega arith, refl)
 pub bounds-text-k : goal.bounds-text-k
 bounds-text-k c = omega arith
 
-pub array-read-if2 : goal.array-read-if2
-array-read-if2 c = omega arith
+pub bounds-k : goal.bounds-k
+bounds-k c = omega arith
 
 -- the byte at a place, with the bytes behind it, decides
 decides_1 : (c : Then-text-k) →

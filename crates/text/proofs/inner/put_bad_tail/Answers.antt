@@ -12,8 +12,8 @@ use Rattle.text.proofs.inner.put_bad_tail.Goals as goal
 pub loop-i-init : goal.loop-i-init
 loop-i-init c = (refl, omega arith, ap (λ (k : ℕ). sets c.args.out.now k bad_tail_bytes) (add-zero c.args.at))
 
-pub array-read-out : goal.array-read-out
-array-read-out c = omega arith
+pub bounds-i : goal.bounds-i
+bounds-i c = omega arith
 
 pub overflow_add-out : goal.overflow_add-out
 overflow_add-out c = omega (arith, length-bad_tail)

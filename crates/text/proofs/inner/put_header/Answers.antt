@@ -11,8 +11,8 @@ use Rattle.text.proofs.inner.put_header.Goals as goal
 pub loop-i-init : goal.loop-i-init
 loop-i-init c = (refl, omega arith, refl)
 
-pub array-read-out : goal.array-read-out
-array-read-out c = omega arith
+pub bounds-i : goal.bounds-i
+bounds-i c = omega arith
 
 pub bounds-out-i : goal.bounds-out-i
 bounds-out-i c = omega (arith, length-header)

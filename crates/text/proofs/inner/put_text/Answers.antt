@@ -96,7 +96,7 @@ abbrev start_3 : After-loop-i → After-loop-i
 start_3 c = c
 
 pub tail_good-requires : goal.tail_good-requires
-tail_good-requires c = (start_3 c).pre.0
+tail_good-requires c = (start_3 c).requires.0
 
 abbrev start_4 : Then-tail_good → Then-tail_good
 start_4 c = c
@@ -158,7 +158,7 @@ put_bad_tail-requires c =
     let s = (start_5 end).args.strip.now in
     let b = bad-size s (sym tail.tail_good.ensures ∙ c.if-tail_good.false) in
     let z = (all_lines_2 end).0 in
-    let p = (start_5 end).pre.1 in
+    let p = (start_5 end).requires.1 in
     let k = same_3 end in
     omega (arith, length-bad_tail)
 
