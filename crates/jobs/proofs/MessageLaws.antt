@@ -3,7 +3,7 @@ use Prim.Native.Nat.{ℕ, ◌+◌, ◌^◌, ◌<◌, ◌≤◌}
 use mathlib.Core.Path.{◌≡◌, refl, sym, ap, ◌∙◌}
 use mathlib.Core.List.{List, [], ◌∷◌, ◌++◌, append_assoc}
 use lib.ListN.{length, take, drop, length-append}
-use lib.Seq.{sets, sets-eq, take-length, take_at, take-append_seam, length-take-le}
+use lib.Seq.{sets, sets-eq, take_at, take-append_seam, length-take-le}
 use native.Mathlib.Omega.{arith}
 use Rattle.bits.proofs.StoreLaws.{front}
 use Rattle.digits.specs.Digits.{ascii, newline}
@@ -57,8 +57,8 @@ fault_is n r = simp append_assoc refl
 -- ---- put
 
 -- bytes copied to the front
-pub copied : (x out : List ℕ) → length x ≤ length out → take (length x) x ++ drop (length x) out ≡ sets out 0 x
-copied x out h = ap (λ (l : List ℕ). l ++ drop (length x) out) (take-length x) ∙ sym (front x out h)
+pub copied : (x out : List ℕ) → length x ≤ length out → x ++ drop (length x) out ≡ sets out 0 x
+copied x out h = sym (front x out h)
 
 -- bytes b, and bytes x behind them: all of it is b and x
 pub behind_front : (b x l : List ℕ) (n : ℕ) → take (length b) l ≡ b → length b + length x ≤ length l → n ≡ length b + length x
@@ -70,28 +70,28 @@ behind_front b x l n e h k =
 
 -- words copied to the front, behind them a number's digits and a byte, and the place behind these
 pub numbered_put : (words rest : List ℕ) (n b : ℕ) {l last : List ℕ} {at end : ℕ} → at ≡ length words
-    → l ≡ take (length words) words ++ rest → at + places n < length l
+    → l ≡ words ++ rest → at + places n < length l
     → last ≡ sets l at (whole_of n ++ b ∷ []) → end ≡ at + places n + 1 → take end last ≡ words ++ (whole_of n ++ b ∷ [])
 numbered_put words rest n b {l} {last} {at} {end} e c h f k =
     let x = whole_of n ++ b ∷ [] in
     let p = part-size (places n) n b in
     let front : take (length words) l ≡ words =
-    ap (take (length words)) (c ∙ ap (λ (y : List ℕ). y ++ rest) (take-length words)) ∙ take-append_seam words rest in
+    ap (take (length words)) c ∙ take-append_seam words rest in
     ap (take end) (f ∙ ap (λ (j : ℕ). sets l j x) e) ∙ behind_front words x l end front (omega arith) (omega arith)
 
 -- words copied behind the first m bytes of l, and the place behind them
-module _ (words rest z l : List ℕ) (m : ℕ) {n k : ℕ} {y : List ℕ} (h : m ≤ length l) (there : y ≡ take (length words) words ++ rest) (e : k ≡ m + n) (f : n ≡ length words) where
+module _ (words rest z l : List ℕ) (m : ℕ) {n k : ℕ} {y : List ℕ} (h : m ≤ length l) (there : y ≡ words ++ rest) (e : k ≡ m + n) (f : n ≡ length words) where
   pub behind_room : k ≤ length (take m l ++ (y ++ z))
   behind_room =
       let a = length-append (take m l) (y ++ z) in
       let b = length-append y z in
-      let c = ap length (there ∙ ap (λ (w : List ℕ). w ++ rest) (take-length words)) ∙ length-append words rest in
+      let c = ap length there ∙ length-append words rest in
       let d = length-take-le m l h in
       omega arith
 
   pub copied_behind : take k (take m l ++ (y ++ z)) ≡ take m l ++ words
   copied_behind =
-      ap (λ (x : List ℕ). take k (take m l ++ (x ++ z))) (there ∙ ap (λ (w : List ℕ). w ++ rest) (take-length words))
+      ap (λ (x : List ℕ). take k (take m l ++ (x ++ z))) there
       ∙ ap (take k) (simp append_assoc refl)
       ∙ take_at (take m l ++ words) (rest ++ z) k (length-append (take m l) words ∙ ap (λ (i : ℕ). i + length words) (length-take-le m l h) ∙ omega arith)
 

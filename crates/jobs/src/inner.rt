@@ -1,5 +1,5 @@
 // Messages as whole answers.
-ghost use Rattle.std.specs.Prelude.{◌≡◌, [], ◌∷◌, ◌++◌, ◌≤◌, length};
+ghost use Rattle.std.specs.Prelude.{◌≡◌, [], ◌∷◌, ◌++◌, ◌≤◌, length, drop};
 ghost use Rattle.digits.specs.Digits.{newline};
 ghost use Rattle.print.specs.Print.{whole_of};
 ghost use Rattle.jobs.specs.Jobs.{fault_said};
@@ -7,6 +7,17 @@ ghost use Rattle.jobs.specs.Answers.{answered_of, answered_out};
 
 use crate::Answered;
 use bits::refusals;
+
+// Copies bytes to the front of an output, and answers how many they are.
+fn copy(src: &[u8], out: &mut [u8]) -> usize
+    requires { length src.now ≤ length out.old }
+    ensures answer { result ≡ length src.now }
+    ensures memory { out.new ≡ src.now ++ drop (length src.now) out.old }
+{
+    let n = src.len();
+    out[..n].copy_from_slice(src);
+    n
+}
 
 // Answers a message.
 pub fn say(message: &[u8], out: &mut [u8]) -> Answered
@@ -27,7 +38,7 @@ pub fn say(message: &[u8], out: &mut [u8]) -> Answered
     }
     Answered {
         refusal: refusals::DONE,
-        length: bytes::copy(message, out),
+        length: copy(message, out),
     }
 }
 
@@ -38,7 +49,7 @@ pub fn say_numbered(words: &[u8], number: u32, out: &mut [u8]) -> Answered
     ensures memory { out.new ≡ answered_out (words.now ++ (whole_of number ++ newline ∷ [])) out.old }
 {
     let mut message = [0u8; 35];
-    let start = bytes::copy(words, &mut message);
+    let start = copy(words, &mut message);
     let end = print::inner::put_whole(&mut message, start, number, b'\n');
     say(&message[..end], out)
 }
@@ -49,9 +60,9 @@ pub fn say_fault(number: u32, rule: u32, out: &mut [u8]) -> Answered
     ensures memory { out.new ≡ answered_out (fault_said number rule) out.old }
 {
     let mut words = [0u8; 24];
-    let start = bytes::copy(b"record ", &mut words);
+    let start = copy(b"record ", &mut words);
     let middle = print::inner::put_whole(&mut words, start, number, b' ');
-    let rest = bytes::copy(b"rule ", &mut words[middle..]);
+    let rest = copy(b"rule ", &mut words[middle..]);
     let end = middle + rest;
     say_numbered(&words[..end], rule, out)
 }

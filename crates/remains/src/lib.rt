@@ -23,8 +23,8 @@ pub fn remainder_record<'a>(cursor: Cursor, order: Order, src: &'a [u8]) -> Rema
     ensures { (result.partial_byte ≡ (partial_of order src.now cursor).partial_byte)
         × (result.partial_bits ≡ (partial_of order src.now cursor).partial_bits)
         × (result.remaining_bytes.now ≡ remainder_of order src.now cursor)
-        × (result.remaining_bytes.ptr.0 ≡ src.entry.ref_ptr.0)
-        × (result.remaining_bytes.ptr.1 ≡ src.entry.ref_ptr.1 + start_of order src.now cursor) }
+        × (result.remaining_bytes.ref_ptr.0 ≡ src.entry.ref_ptr.0)
+        × (result.remaining_bytes.ref_ptr.1 ≡ src.entry.ref_ptr.1 + start_of order src.now cursor) }
 {
     let partial = cursor.partial(order, src);
     let rest = cursor.remainder(order, src);

@@ -1,2 +1,0 @@
-pub mod Lends
-pub mod Loan
