@@ -1,7 +1,7 @@
 -- `say_fault` meets its contract: a number has at most ten digits, and the pieces stand behind each other (`numbered_put`,
 -- `copied_behind`). Assumes nothing.
 use Prim.Native.Nat.{ℕ, ◌≤◌}
-use mathlib.Core.Path.{◌≡◌, refl, sym, ap, ◌∙◌}
+use mathlib.Core.Path.{◌≡◌, refl, sym, ap, ◌∙◌, subst}
 use mathlib.Core.List.{List, [], ◌∷◌, ◌++◌}
 use lib.ListN.{take}
 use lib.Seq.{length-take-le}
@@ -30,8 +30,12 @@ middle_few_1 c =
 pub slice_bounds-copy-count : goal.slice_bounds-copy-count
 slice_bounds-copy-count c = let m = middle_few_1 c in omega arith
 
-pub slice-bounds-words-start : goal.slice-bounds-words-start
-slice-bounds-words-start c = let m = middle_few_2 c in omega arith
+pub slice_bounds-words-start : goal.slice_bounds-words-start
+slice_bounds-words-start c =
+    let few = places_few 9 9 c.args.number (omega arith) in
+    let e = c.copy-start.ensures.answer in
+    let f = c.put_whole-middle.ensures.answer in
+    omega arith
 
 -- the first two pieces have at most 18 bytes
 middle_few_3 : (c : After-words-5-1) → c.put_whole-middle.result ≤ 18
@@ -66,7 +70,14 @@ slice_bounds-words-end-2 c =
     behind_room rule_bytes _ _ put.put_whole-middle.new.out put.put_whole-middle.result (omega arith) made.ensures.memory refl made.ensures.answer
 
 pub slice_bounds-say_numbered-end : goal.slice_bounds-say_numbered-end
-slice_bounds-say_numbered-end c = sym (length-take-le _ _ (array-share-prefix-words c))
+slice_bounds-say_numbered-end c =
+    let put = c in
+    let few = places_few 9 9 c.args.number (omega arith) in
+    let e = c.copy-start.ensures.answer in
+    let f = c.put_whole-middle.ensures.answer in
+    let m : put.put_whole-middle.result ≤ 18 = omega arith in
+    let made = c.copy-rest in
+    sym (length-take-le _ _ (behind_room rule_bytes _ _ put.put_whole-middle.new.out put.put_whole-middle.result (omega arith) made.ensures.memory refl made.ensures.answer))
 
 -- the first two pieces have at most 18 bytes
 middle_few_5 : (c : After-say_numbered-arg-1) → c.put_whole-middle.result ≤ 18
@@ -80,8 +91,10 @@ pub say_numbered-requires : goal.say_numbered-requires
 say_numbered-requires c =
     let m = middle_few_5 c in
     let e = c.copy-rest.ensures.answer in
-    let l = slice_aggregate_say_numbered c in
-    omega arith
+    let made = c.copy-rest in
+    subst (λ (n : ℕ). n ≤ 24)
+    (sym (length-take-le _ _ (behind_room rule_bytes _ _ c.put_whole-middle.new.out c.put_whole-middle.result (omega arith) made.ensures.memory refl made.ensures.answer)))
+    (omega arith)
 
 -- the first two pieces have at most 18 bytes
 middle_few_6 : (c : After-slice_known-2-1) → c.put_whole-middle.result ≤ 18
@@ -101,9 +114,10 @@ returns c =
     let m = middle_few_6 put in
     let first = put.copy-start in
     let a = put.args in
-    let room = put-whole-requires put p.lifetimes in
+    let few = places_few 9 9 a.number (omega arith) in
+    let start = first.ensures.answer in
     let front : take p.result p.new.out ≡ record_bytes ++ (whole_of a.number ++ 32 ∷ []) =
-    numbered_put record_bytes _ a.number 32 first.ensures.answer first.ensures.memory room p.ensures.memory p.ensures.answer in
+    numbered_put record_bytes _ a.number 32 first.ensures.answer first.ensures.memory (omega arith) p.ensures.memory p.ensures.answer in
     let whole = copied_behind rule_bytes _ _ p.new.out p.result (omega arith) made.ensures.memory refl made.ensures.answer in
     let e = fault_is a.number a.rule ∙ ap (λ (w : List ℕ). numbered w a.rule) (sym (whole ∙ ap (λ (w : List ℕ). w ++ rule_bytes) front)) in
     rw e (record {

@@ -26,7 +26,10 @@ slice_bounds-message-end c =
 pub slice_bounds-say-end : goal.slice_bounds-say-end
 slice_bounds-say-end c =
     let p = c.put_whole-end in
-    sym (length-take-le p.result p.new.out (array-share-prefix-message c))
+    let few = places_few 9 9 c.args.number (omega arith) in
+    let e = c.copy-start.ensures.answer in
+    let f = p.ensures.answer in
+    sym (length-take-le p.result p.new.out (omega arith))
 
 pub returns : goal.returns
 returns c =
@@ -35,9 +38,10 @@ returns c =
     let p = put.put_whole-end in
     let m = put.copy-start in
     let a = put.args in
-    let room = put-whole-requires put p.lifetimes in
+    let few = places_few 9 9 a.number (omega arith) in
+    let start = m.ensures.answer in
     let e : take p.result p.new.out ≡ numbered a.words.now a.number =
-    numbered_put a.words.now _ a.number newline m.ensures.answer m.ensures.memory room p.ensures.memory p.ensures.answer in
+    numbered_put a.words.now _ a.number newline m.ensures.answer m.ensures.memory (omega arith) p.ensures.memory p.ensures.answer in
     rw (sym e) (record {
       answer = said.ensures.answer;
       memory = said.ensures.memory;
