@@ -99,7 +99,7 @@ module _ (In : Order → Type 0) (s : List ℕ) (short : length s ≤ longest) (
   unfolding R.read_of
   read_owned c k o a w = if_holds (λ (r : ReadU64). Owned r.cursor) _ _ _ k (λ z. (o, a, read_belongs o s c w z))
 
-  called_owned : {c d : Cursor} {o : Order} → Owned c → In o → Called s c o d → Owned d
+  called_owned : {c : Cursor} {o : Order} {d : Cursor} → Owned c → In o → Called s c o d → Owned d
   unfolding R.bytes_of R.consume_of R.refill_of T.read_of run_of S.read_of
   called_owned {c} {o = o} k a (Made.read_bits w) = read_owned c k o a w
   called_owned {c} {o = o} k a (Made.read_bytes n) = if_holds Owned _ _ _ k (λ z. (o, a, (bytes_advanced o s c n z).belongs))
@@ -122,7 +122,7 @@ called_belongs {s} {c} {d} {o} own x =
     subst (λ (r : Order). cursor_refusal r s d ≡ done) same belongs
 
 -- and in any order the end stays
-pub called_stop : {s : List ℕ} {c d : Cursor} {o : Order} → Called s c o d → stop s d ≡ stop s c
+pub called_stop : {s : List ℕ} {c : Cursor} {o : Order} {d : Cursor} → Called s c o d → stop s d ≡ stop s c
 unfolding T.read_of run_of S.read_of
 called_stop {s} {c} {o = o} (Made.read_bits w) = read_stop o s c w
 called_stop {s} {c} {o = o} (Made.read_bytes n) = bytes_stop o s c n
