@@ -9,42 +9,38 @@ use typed::{Kind, Typed, TypedRead};
 use vetting::Verdict;
 use writer::Writer;
 
-fn main() {
-    reads();
-    wide_reads();
-    fields();
-    counts();
-    bytes();
-    manual();
-    remainders();
-    ends();
-    borrowed();
-    remainder_records();
-    writes();
-    wide_writes();
-    field_writes();
-    floats_and_signs();
-    typed_values();
-    layouts();
-    records();
-    lists();
-    wrapped();
-    vetted();
-    tables();
-    lines();
-    texts();
-    whole_jobs();
-    hosts();
+fn main(rt: HostRuntime) {
+    reads(&rt);
+    wide_reads(&rt);
+    fields(&rt);
+    counts(&rt);
+    bytes(&rt);
+    manual(&rt);
+    remainders(&rt);
+    ends(&rt);
+    borrowed(&rt);
+    remainder_records(&rt);
+    writes(&rt);
+    wide_writes(&rt);
+    field_writes(&rt);
+    floats_and_signs(&rt);
+    typed_values(&rt);
+    layouts(&rt);
+    records(&rt);
+    lists(&rt);
+    wrapped(&rt);
+    vetted(&rt);
+    tables(&rt);
+    lines(&rt);
+    texts(&rt);
+    whole_jobs(&rt);
+    hosts(&rt);
 }
 
 // Writes a call's name, and whether it answered as expected.
-fn expect(call: &[u8], holds: bool) {
-    let _name = io::write_all(1, call);
-    if holds {
-        let _said = io::write_all(1, b" holds\n");
-    } else {
-        let _said = io::write_all(1, b" FAILS\n");
-    }
+fn expect(rt: &impl Print, call: &str, holds: bool) {
+    let said = if holds { "holds" } else { "FAILS" };
+    let _told = println!(rt; "{call} {said}");
 }
 
 // A cursor at the start of a slice.
@@ -61,297 +57,297 @@ fn blank() -> Writer {
     fresh
 }
 
-fn reads() {
+fn reads(rt: &impl Print) {
     let made = Cursor::new(b"\x5a\xff");
-    expect(b"Cursor::new", made.refusal == 0);
+    expect(rt, "Cursor::new", made.refusal == 0);
 
     let far = Cursor::from_parts(9, 0, 0, 72);
     let got = far.read_u8(Order::Big, b"\x5a");
-    expect(b"Cursor::from_parts", got.refusal == 2);
+    expect(rt, "Cursor::from_parts", got.refusal == 2);
 
     let start = fresh(b"\x80");
     let got = start.read_bit(Order::Big, b"\x80");
-    expect(b"read_bit", got.value);
+    expect(rt, "read_bit", got.value);
 
     let start = fresh(b"\x5a");
     let got = start.read_u8(Order::Big, b"\x5a");
-    expect(b"read_u8", got.value == 0x5a);
+    expect(rt, "read_u8", got.value == 0x5a);
 
     let start = fresh(b"\xda");
     let got = start.read_i8(Order::Big, b"\xda");
-    expect(b"read_i8", got.value == -38);
+    expect(rt, "read_i8", got.value == -38);
 
     let start = fresh(b"\x01\x02");
     let got = start.read_u16(Order::Little, b"\x01\x02");
-    expect(b"read_u16", got.value == 0x0201);
+    expect(rt, "read_u16", got.value == 0x0201);
 
     let start = fresh(b"\xfe\xff");
     let got = start.read_i16(Order::Little, b"\xfe\xff");
-    expect(b"read_i16", got.value == -2);
+    expect(rt, "read_i16", got.value == -2);
 
     let start = fresh(b"\x00\x01\x02\x03");
     let got = start.read_u32(Order::Big, b"\x00\x01\x02\x03");
-    expect(b"read_u32", got.value == 0x0001_0203);
+    expect(rt, "read_u32", got.value == 0x0001_0203);
 
     let start = fresh(b"\xff\xff\xff\xfe");
     let got = start.read_i32(Order::Big, b"\xff\xff\xff\xfe");
-    expect(b"read_i32", got.value == -2);
+    expect(rt, "read_i32", got.value == -2);
 }
 
-fn wide_reads() {
+fn wide_reads(rt: &impl Print) {
     let start = fresh(b"\x3f\x80\x00\x00");
     let got = start.read_f32(Order::Big, b"\x3f\x80\x00\x00");
     let one = got.value;
     let bits = floats::bits_of_single(one);
-    expect(b"read_f32", bits == 0x3f80_0000);
+    expect(rt, "read_f32", bits == 0x3f80_0000);
 
     let start = fresh(b"\x00\x01\x02\x03\x04\x05\x06\x07");
     let got = start.read_u64(Order::Big, b"\x00\x01\x02\x03\x04\x05\x06\x07");
-    expect(b"read_u64", got.value == 0x0001_0203_0405_0607);
+    expect(rt, "read_u64", got.value == 0x0001_0203_0405_0607);
 
     let start = fresh(b"\xfe\xff\xff\xff\xff\xff\xff\xff");
     let got = start.read_i64(Order::Little, b"\xfe\xff\xff\xff\xff\xff\xff\xff");
-    expect(b"read_i64", got.value == -2);
+    expect(rt, "read_i64", got.value == -2);
 
     let start = fresh(b"\x3f\xf0\x00\x00\x00\x00\x00\x00");
     let got = start.read_f64(Order::Big, b"\x3f\xf0\x00\x00\x00\x00\x00\x00");
     let one = got.value;
     let bits = floats::bits_of_double(one);
-    expect(b"read_f64", bits == 0x3ff0_0000_0000_0000);
+    expect(rt, "read_f64", bits == 0x3ff0_0000_0000_0000);
 }
 
-fn fields() {
+fn fields(rt: &impl Print) {
     let start = fresh(b"\xa5");
     let got = start.read_bits(Order::Big, b"\xa5", 3);
-    expect(b"read_bits", got.value == 5);
+    expect(rt, "read_bits", got.value == 5);
 
     let start = fresh(b"\x8f");
     let got = start.read_signed_bits(Order::Big, b"\x8f", 4);
-    expect(b"read_signed_bits", got.value == -8);
+    expect(rt, "read_signed_bits", got.value == -8);
 }
 
-fn counts() {
+fn counts(rt: &impl Print) {
     let start = fresh(b"\x5a\xff");
 
     let left = start.bytes_remaining(Order::Big, b"\x5a\xff");
-    expect(b"bytes_remaining", left.value == 2);
+    expect(rt, "bytes_remaining", left.value == 2);
 
     let left = start.unbuffered_bytes_remaining(Order::Big, b"\x5a\xff");
-    expect(b"unbuffered_bytes_remaining", left.value == 2);
+    expect(rt, "unbuffered_bytes_remaining", left.value == 2);
 
     let left = start.bits_remaining(Order::Big, b"\x5a\xff");
-    expect(b"bits_remaining", left.value == 16);
+    expect(rt, "bits_remaining", left.value == 16);
 
     let more = start.has_bits_remaining(Order::Big, b"\x5a\xff", 16);
-    expect(b"has_bits_remaining", more.value);
+    expect(rt, "has_bits_remaining", more.value);
 
     let start = fresh(b"");
     let none = start.is_empty(Order::Big, b"");
-    expect(b"is_empty", none.value);
+    expect(rt, "is_empty", none.value);
 
     let start = fresh(b"\x5a\xff");
     let whole = start.byte_aligned(Order::Big, b"\x5a\xff");
-    expect(b"byte_aligned", whole.value);
+    expect(rt, "byte_aligned", whole.value);
 }
 
-fn bytes() {
+fn bytes(rt: &impl Print) {
     let start = fresh(b"\x01\x02\x03");
     let mut two = [0u8; 2];
 
     let got = start.read_bytes(Order::Big, b"\x01\x02\x03", &mut two);
-    expect(b"read_bytes", two[1] == 2);
-    expect(b"read_bytes", got.refusal == 0);
+    expect(rt, "read_bytes", two[1] == 2);
+    expect(rt, "read_bytes", got.refusal == 0);
 }
 
-fn manual() {
+fn manual(rt: &impl Print) {
     let start = fresh(b"\xa5\x01");
 
     let moved = start.refill_lookahead(Order::Big, b"\xa5\x01");
-    expect(b"refill_lookahead", moved.refusal == 0);
+    expect(rt, "refill_lookahead", moved.refusal == 0);
     let full = moved.cursor;
 
     let ahead = full.lookahead_bits(Order::Big, b"\xa5\x01");
-    expect(b"lookahead_bits", ahead.value == 16);
+    expect(rt, "lookahead_bits", ahead.value == 16);
 
     let seen = full.peek(Order::Big, b"\xa5\x01", 4);
-    expect(b"peek", seen.value == 10);
+    expect(rt, "peek", seen.value == 10);
 
     let moved = full.consume(Order::Big, b"\xa5\x01", 4);
-    expect(b"consume", moved.refusal == 0);
+    expect(rt, "consume", moved.refusal == 0);
 }
 
-fn remainders() {
+fn remainders(rt: &impl Print) {
     let start = fresh(b"\x5a\xff");
     let three = start.read_bits(Order::Big, b"\x5a\xff", 3);
     let behind = three.cursor;
 
     let rest = behind.remainder(Order::Big, b"\x5a\xff");
-    expect(b"remainder", rest.len() == 1);
+    expect(rt, "remainder", rest.len() == 1);
 
     let before = behind.partial(Order::Big, b"\x5a\xff");
-    expect(b"partial", before.partial_byte == 0x1a);
+    expect(rt, "partial", before.partial_byte == 0x1a);
 }
 
-fn ends() {
+fn ends(rt: &impl Print) {
     let start = fresh(b"\x5a\xff");
 
     let moved = start.lower_end(Order::Big, b"\x5a\xff", 8);
     let cut = moved.cursor;
     let left = cut.bits_remaining(Order::Big, b"\x5a\xff");
-    expect(b"lower_end", left.value == 8);
+    expect(rt, "lower_end", left.value == 8);
 }
 
-fn borrowed() {
+fn borrowed(rt: &impl Print) {
     let start = fresh(b"\xa5\x01");
 
     let moved = lent::refilled(start, Order::Big, b"\xa5\x01");
-    expect(b"inplace::refill_lookahead", moved.refusal == 0);
+    expect(rt, "inplace::refill_lookahead", moved.refusal == 0);
     let full = moved.cursor;
 
     let seen = lent::peeked(full, Order::Big, b"\xa5\x01", 4);
-    expect(b"inplace::peek", seen.value == 10);
+    expect(rt, "inplace::peek", seen.value == 10);
 
     let moved = lent::consumed(full, Order::Big, b"\xa5\x01", 17);
-    expect(b"inplace::consume", moved.refusal == 10);
+    expect(rt, "inplace::consume", moved.refusal == 10);
 
     let moved = lent::lowered(start, Order::Big, b"\xa5\x01", 17);
-    expect(b"inplace::lower_end", moved.refusal == 13);
+    expect(rt, "inplace::lower_end", moved.refusal == 13);
 }
 
-fn remainder_records() {
+fn remainder_records(rt: &impl Print) {
     let start = fresh(b"\x5a\xff");
     let three = start.read_bits(Order::Big, b"\x5a\xff", 3);
     let behind = three.cursor;
 
     let rest = lent::left(behind, Order::Big, b"\x5a\xff");
-    expect(b"remainder_record", rest.partial_bits == 5);
+    expect(rt, "remainder_record", rest.partial_bits == 5);
 
-    expect(b"Remainder::partial_bits", rest.partial_bits == 5);
+    expect(rt, "Remainder::partial_bits", rest.partial_bits == 5);
 
-    expect(b"Remainder::partial_byte", rest.partial_byte == 0x1a);
+    expect(rt, "Remainder::partial_byte", rest.partial_byte == 0x1a);
 
-    expect(b"Remainder::data", rest.length == 1);
+    expect(rt, "Remainder::data", rest.length == 1);
 }
 
-fn writes() {
+fn writes(rt: &impl Print) {
     let blank = blank();
     let mut out = [0u8; 8];
 
     let made = Writer::new(&out);
-    expect(b"Writer::new", made.refusal == 0);
+    expect(rt, "Writer::new", made.refusal == 0);
 
     let wrote = blank.write_bit(Order::Big, &mut out, true);
-    expect(b"write_bit", wrote.refusal == 0);
+    expect(rt, "write_bit", wrote.refusal == 0);
 
     let _wrote = blank.write_u8(Order::Big, &mut out, 0x5a);
-    expect(b"write_u8", out[0] == 0x5a);
+    expect(rt, "write_u8", out[0] == 0x5a);
 
     let _wrote = blank.write_i8(Order::Big, &mut out, -38);
-    expect(b"write_i8", out[0] == 0xda);
+    expect(rt, "write_i8", out[0] == 0xda);
 
     let _wrote = blank.write_u16(Order::Little, &mut out, 0x0201);
-    expect(b"write_u16", out[1] == 2);
+    expect(rt, "write_u16", out[1] == 2);
 
     let _wrote = blank.write_i16(Order::Big, &mut out, -2);
-    expect(b"write_i16", out[1] == 0xfe);
+    expect(rt, "write_i16", out[1] == 0xfe);
 
     let _wrote = blank.write_u32(Order::Big, &mut out, 0x0001_0203);
-    expect(b"write_u32", out[3] == 3);
+    expect(rt, "write_u32", out[3] == 3);
 
     let _wrote = blank.write_i32(Order::Big, &mut out, -2);
-    expect(b"write_i32", out[3] == 0xfe);
+    expect(rt, "write_i32", out[3] == 0xfe);
 }
 
-fn wide_writes() {
+fn wide_writes(rt: &impl Print) {
     let blank = blank();
     let mut out = [0u8; 8];
 
     let one = floats::single_of_bits(0x3f80_0000);
     let wrote = blank.write_f32(Order::Big, &mut out, one);
-    expect(b"write_f32", wrote.refusal == 16);
+    expect(rt, "write_f32", wrote.refusal == 16);
 
     let _wrote = blank.write_u64(Order::Big, &mut out, 0x0001_0203_0405_0607);
-    expect(b"write_u64", out[7] == 7);
+    expect(rt, "write_u64", out[7] == 7);
 
     let _wrote = blank.write_i64(Order::Big, &mut out, -2);
-    expect(b"write_i64", out[7] == 0xfe);
+    expect(rt, "write_i64", out[7] == 0xfe);
 
     let one = floats::double_of_bits(0x3ff0_0000_0000_0000);
     let _wrote = blank.write_f64(Order::Big, &mut out, one);
-    expect(b"write_f64", out[1] == 0xf0);
+    expect(rt, "write_f64", out[1] == 0xf0);
 }
 
-fn field_writes() {
+fn field_writes(rt: &impl Print) {
     let blank = blank();
     let mut out = [0u8; 8];
 
     let wrote = blank.write_bits(Order::Big, &mut out, 3, 5);
-    expect(b"write_bits", wrote.refusal == 0);
+    expect(rt, "write_bits", wrote.refusal == 0);
     let next = wrote.writer;
 
     let over = next.unaligned_bits(&out);
-    expect(b"unaligned_bits", over.value == 3);
+    expect(rt, "unaligned_bits", over.value == 3);
 
     let wrote = next.flush(Order::Big, &mut out);
-    expect(b"flush", out[0] == 0xa0);
+    expect(rt, "flush", out[0] == 0xa0);
     let last = wrote.writer;
 
     let wrote = last.write_signed_bits(Order::Big, &mut out, 8, -1);
-    expect(b"write_signed_bits", out[1] == 0xff);
+    expect(rt, "write_signed_bits", out[1] == 0xff);
     let last = wrote.writer;
 
     let _wrote = last.write_bytes(Order::Big, &mut out, b"\x01\x02");
-    expect(b"write_bytes", out[3] == 2);
+    expect(rt, "write_bytes", out[3] == 2);
 }
 
-fn floats_and_signs() {
+fn floats_and_signs(rt: &impl Print) {
     let eight = sign::sign_extend(8, 4);
-    expect(b"sign_extend", eight.value == -8);
+    expect(rt, "sign_extend", eight.value == -8);
 
     let nan = floats::single_of_bits(0x7fa0_0001);
     let bits = floats::bits_of_single(nan);
-    expect(b"bits_of_single", bits == 0x7fa0_0001);
+    expect(rt, "bits_of_single", bits == 0x7fa0_0001);
 
     let nan = floats::double_of_bits(0x7ff4_0000_0000_0001);
     let bits = floats::bits_of_double(nan);
-    expect(b"bits_of_double", bits == 0x7ff4_0000_0000_0001);
+    expect(rt, "bits_of_double", bits == 0x7ff4_0000_0000_0001);
 
     let zero = floats::single_of_bits(0);
     let minus = floats::single_of_bits(0x8000_0000);
-    expect(b"same_single", !floats::same_single(zero, minus));
+    expect(rt, "same_single", !floats::same_single(zero, minus));
 
     let zero = floats::double_of_bits(0);
     let minus = floats::double_of_bits(0x8000_0000_0000_0000);
-    expect(b"same_double", !floats::same_double(zero, minus));
+    expect(rt, "same_double", !floats::same_double(zero, minus));
 
     let least = floats::single_of_bits(1);
     let same = floats::double_of_single(least);
     let bits = floats::bits_of_double(same);
-    expect(b"double_of_single", bits == 0x36a0_0000_0000_0000);
+    expect(rt, "double_of_single", bits == 0x36a0_0000_0000_0000);
 }
 
-fn typed_values() {
+fn typed_values(rt: &impl Print) {
     let start = fresh(b"\xfe");
     let blank = blank();
     let mut out = [0u8; 8];
 
     let two = typed::typed_of_bits(Kind::Signed, 0xffff_ffff_ffff_fffe);
     let bits = typed::bits_of_typed(two);
-    expect(b"bits_of_typed", bits == 0xffff_ffff_ffff_fffe);
+    expect(rt, "bits_of_typed", bits == 0xffff_ffff_ffff_fffe);
 
     let near = typed::typed_of_bits(Kind::Unsigned, 0xffff_ffff_ffff_fffe);
-    expect(b"same_typed", !typed::same_typed(two, near));
+    expect(rt, "same_typed", !typed::same_typed(two, near));
 
     let zero = typed::typed_of_bits(Kind::Single, 0x8000_0000);
     let wide = typed::widen_typed(zero);
     let bits = typed::bits_of_typed(wide);
-    expect(b"widen_typed", bits == 0x8000_0000_0000_0000);
+    expect(rt, "widen_typed", bits == 0x8000_0000_0000_0000);
 
     let _wrote = typed::write_typed(blank, Order::Big, &mut out, two, 8);
-    expect(b"write_typed", out[0] == 0xfe);
+    expect(rt, "write_typed", out[0] == 0xfe);
 
     let read = typed::read_typed(start, Order::Big, b"\xfe", Kind::Signed, 8);
-    expect(b"read_typed", bits_read(read) == 0xffff_ffff_ffff_fffe);
+    expect(rt, "read_typed", bits_read(read) == 0xffff_ffff_ffff_fffe);
 }
 
 // The bits of the value that a typed read answered, 0 where it was refused.
@@ -362,19 +358,19 @@ fn bits_read(read: TypedRead) -> u64 {
     }
 }
 
-fn layouts() {
+fn layouts(rt: &impl Print) {
     let start = fresh(b"\xbf");
     let mut out = [0u8; 8];
     let mut results = [0u64; 2];
 
     let compiled = layout::compile(b"\x00\x03\x01\x05", &mut out);
-    expect(b"compile", compiled.length == 3);
+    expect(rt, "compile", compiled.length == 3);
 
     let number = layout::check(b"\x00\x43\x85");
-    expect(b"check", number == 0);
+    expect(rt, "check", number == 0);
 
     let _ran = plan::run(start, Order::Big, b"\xbf", b"\x00\x43\x85", &mut results);
-    expect(b"run", results[0] == 5);
+    expect(rt, "run", results[0] == 5);
 }
 
 // The estimate 5,2460523.64817,0,-1.440,0.012,3.
@@ -389,41 +385,41 @@ fn estimate() -> Record {
     }
 }
 
-fn records() {
+fn records(rt: &impl Print) {
     let blank = blank();
     let mut out = [0u8; 12];
     let found = estimate();
 
     let wrote = strip::pack_record(blank, &mut out, found);
-    expect(b"pack_record", out[2] == 0x5e);
+    expect(rt, "pack_record", out[2] == 0x5e);
     let last = wrote.writer;
     let _ended = last.flush(Order::Big, &mut out);
 
     let start = fresh(&out);
     let read = strip::read_record(start, &out);
     let found = read.found;
-    expect(b"read_record", found.magnitude == -1440);
+    expect(rt, "read_record", found.magnitude == -1440);
 }
 
-fn lists() {
+fn lists(rt: &impl Print) {
     let mut out = [0u8; 12];
     let mut list = [5u64, 246_052_364_817, 0, 0, 12, 3];
 
     let packed = strip::pack_strip(&list, 1, &mut out);
-    expect(b"pack_strip", packed.length == 12);
+    expect(rt, "pack_strip", packed.length == 12);
 
     let read = strip::read_strip(&out, &mut list);
-    expect(b"read_strip", read.tail_good);
+    expect(rt, "read_strip", read.tail_good);
 }
 
 // A message of a header byte, a strip of 12 bytes (the worked record of docs/FORMAT.md) and words behind it.
-fn wrapped() {
+fn wrapped(rt: &impl Print) {
     let message = *b"\x7e\x00\x00\x5e\x52\x77\x48\x84\x5f\x4c\x00\x61\x80dome 4, done";
     let start = fresh(&message);
 
     // The header, and then the end put behind the strip: at bit 8 + 8 * 12.
     let header = start.read_u8(Order::Big, &message);
-    expect(b"wrapped strip", header.value == 0x7e);
+    expect(rt, "wrapped strip", header.value == 0x7e);
     let within = header.cursor;
     let moved = within.lower_end(Order::Big, &message, 104);
     let cut = moved.cursor;
@@ -431,97 +427,97 @@ fn wrapped() {
     // Records, until 9 is answered: without the end the words would be the second one.
     let first = strip::read_record(cut, &message);
     let found = first.found;
-    expect(b"wrapped strip", found.date == 246_052_364_817);
+    expect(rt, "wrapped strip", found.date == 246_052_364_817);
     let behind = first.cursor;
     let second = strip::read_record(behind, &message);
-    expect(b"wrapped strip", second.refusal == 9);
+    expect(rt, "wrapped strip", second.refusal == 9);
 
     // The rest up to the end: no whole byte, and the tail's seven bits, which are 0.
     let rest = behind.remainder(Order::Big, &message);
-    expect(b"wrapped strip", rest.len() == 0);
+    expect(rt, "wrapped strip", rest.len() == 0);
     let tail = behind.partial(Order::Big, &message);
-    expect(b"wrapped strip", tail.partial_bits == 7);
-    expect(b"wrapped strip", tail.partial_byte == 0);
+    expect(rt, "wrapped strip", tail.partial_bits == 7);
+    expect(rt, "wrapped strip", tail.partial_byte == 0);
 
     // The words: the message from byte 104 / 8 on.
     let words = &message[13..];
-    expect(b"wrapped strip", words[0] == b'd');
+    expect(rt, "wrapped strip", words[0] == b'd');
 }
 
-fn vetted() {
+fn vetted(rt: &impl Print) {
     let zeros = [0u8; 12];
     let verdict = vetting::vet_strip(&zeros);
     let rule = match verdict {
         Verdict::Broken(_number, rule) => rule,
         _ => 0,
     };
-    expect(b"vet_strip", rule == 3);
+    expect(rt, "vet_strip", rule == 3);
 }
 
-fn tables() {
+fn tables(rt: &impl Print) {
     let mut table = [0u8; 18];
     let mut strip = *b"\x00\x00\x5e\x52\x77\x48\x84\x5f\x4c\x00\x61\x80";
     let found = estimate();
 
     let number = rows::write_row(found, &mut table);
-    expect(b"write_row", number == 0);
+    expect(rt, "write_row", number == 0);
 
     let read = rows::read_row(&table);
     let found = read.found;
-    expect(b"read_row", found.magnitude == -1440);
+    expect(rt, "read_row", found.magnitude == -1440);
 
     let turned = rows::strip_to_rows(&strip, &mut table);
-    expect(b"strip_to_rows", turned.length == 18);
+    expect(rt, "strip_to_rows", turned.length == 18);
 
     let packed = rows::rows_to_strip(&table, &mut strip);
-    expect(b"rows_to_strip", packed.length == 12);
+    expect(rt, "rows_to_strip", packed.length == 12);
 }
 
-fn lines() {
+fn lines(rt: &impl Print) {
     let mut out = [0u8; 41];
     let found = estimate();
 
     let read = line::read_line(b"5,2460523.64817,0,-1.440,0.012,3\n");
     let named = read.record;
-    expect(b"read_line", named.magnitude == -1440);
+    expect(rt, "read_line", named.magnitude == -1440);
 
     let wrote = listing::write_line(found, &mut out);
-    expect(b"write_line", wrote.length == 33);
+    expect(rt, "write_line", wrote.length == 33);
 }
 
-fn texts() {
+fn texts(rt: &impl Print) {
     let mut out = [0u8; 64];
 
     let listed = text::list_text(b"\x00", &mut out);
-    expect(b"list_text", listed.length == 40);
+    expect(rt, "list_text", listed.length == 40);
 
     let packed = text::pack_text(b"star,date\n", &mut out);
-    expect(b"pack_text", packed.line == 1);
+    expect(rt, "pack_text", packed.line == 1);
 }
 
-fn whole_jobs() {
+fn whole_jobs(rt: &impl Print) {
     let mut out = [0u8; 64];
 
     let answer = jobs::list_answer(b"\x00", &mut out);
-    expect(b"list_answer", answer.length == 40);
+    expect(rt, "list_answer", answer.length == 40);
 
     let answer = jobs::pack_answer(b"star,date\n", &mut out);
-    expect(b"pack_answer", answer.length == 11);
+    expect(rt, "pack_answer", answer.length == 11);
 
     let answer = jobs::rows_answer(b"\x00", &mut out);
-    expect(b"rows_answer", answer.length == 9);
+    expect(rt, "rows_answer", answer.length == 9);
 
     let answer = jobs::pack_rows_answer(b"star", &mut out);
-    expect(b"pack_rows_answer", answer.length == 9);
+    expect(rt, "pack_rows_answer", answer.length == 9);
 
     let answer = jobs::check_answer(b"\x00", &mut out);
-    expect(b"check_answer", answer.length == 9);
+    expect(rt, "check_answer", answer.length == 9);
 }
 
-fn hosts() {
+fn hosts(rt: &impl Print) {
     let number = host::strip_refusal(1, 4, 21, b"\x00\x00\x5e");
-    expect(b"strip_refusal", number == 9);
+    expect(rt, "strip_refusal", number == 9);
 
     let value = host::strip_value(1, 0, 20, b"\x00\x00\x5e");
-    expect(b"strip_value", value == 5);
+    expect(rt, "strip_value", value == 5);
 }

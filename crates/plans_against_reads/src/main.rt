@@ -5,7 +5,7 @@
 use bits::Order;
 use reader::Cursor;
 
-fn main() {
+fn main(rt: HostRuntime) {
     let mut seed: u64 = 20261115;
     let mut agreed: u64 = 0;
     for _round in 0..300usize {
@@ -13,8 +13,7 @@ fn main() {
         agreed = counted(agreed, round(true, seed));
         agreed = counted(agreed, round(false, seed));
     }
-    let _number = io::print_decimal(1, agreed);
-    let _end = io::write_all(1, b" of 600 runs agree\n");
+    let _told = println!(rt; "{agreed} of 600 runs agree");
 }
 
 // One round: some bytes and a layout from the seed, a run and its reading.

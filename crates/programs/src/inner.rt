@@ -1,6 +1,9 @@
 // Reading standard input, writing standard output, and telling on standard error where either fails.
 ghost use Rattle.std.specs.Prelude.{◌≤◌, length};
 
+use std::io;
+use std::io::Read;
+
 // How many bytes were read, and whether a read failed.
 #[derive(Clone, Copy)]
 pub struct Input {
@@ -9,19 +12,18 @@ pub struct Input {
 }
 
 // Reads standard input until it ends, the buffer is full, or a read fails.
-pub fn read_input(buf: &mut [u8]) -> Input
+pub fn read_input(rt: &impl io::Input, buf: &mut [u8]) -> Input
     ensures { result.count ≤ length buf.old }
 {
+    let mut reader = rt.reader();
     let mut done = 0;
     while done < buf.len() {
-        let got = libc::read(0, &mut buf[done..]);
-        if got < 0 {
+        let Ok(n) = reader.read(&mut buf[done..]) else {
             return Input {
                 count: done,
                 failed: true,
             };
-        }
-        let n = io::count(got, &buf[done..]);
+        };
         if n == 0 {
             return Input {
                 count: done,
@@ -37,19 +39,19 @@ pub fn read_input(buf: &mut [u8]) -> Input
 }
 
 // Tells on standard error that a read failed.
-pub fn tell_unread() {
-    tell(b"standard input can't be read\n");
+pub fn tell_unread(rt: &impl Eprint) {
+    tell(rt, "standard input can't be read\n");
 }
 
 // Writes to standard output, and tells a failure on standard error.
-pub fn write_output(some: &[u8]) {
-    if io::write_all(1, some) {
+pub fn write_output(rt: &(impl Print + Eprint), some: &[u8]) {
+    if rt.write_all(some).is_ok() {
         return;
     }
-    tell(b"standard output can't be written\n");
+    tell(rt, "standard output can't be written\n");
 }
 
 // Tells something on standard error.
-fn tell(message: &[u8]) {
-    let _told = io::write_all(2, message);
+fn tell(rt: &impl Eprint, message: &str) {
+    let _told = rt.eprint(message);
 }

@@ -1,6 +1,6 @@
 // Runs the script on standard input and writes an answer line a call: the oracle's script, with the Rust's answers as expected output.
 #![tactic(auto)]
 
-fn main() {
-    script_calls::program::run();
+fn main(rt: HostRuntime) {
+    script_calls::program::run(&rt);
 }

@@ -2,12 +2,11 @@
 // format is described in docs/REPLAY.md. What is proved here is that no script traps it.
 #![tactic(auto)]
 
-ghost use Rattle.std.specs.Prelude.{◌≤◌, length};
-ghost use Rattle.io.specs.Counts.{IsPrefixLen};
+ghost use Rattle.std.specs.Prelude.{◌≡◌, ◌≤◌, length, take};
 
 use bits::Order;
 use reader::Cursor;
-use script_words::inner as words;
+use script_words::inner as spelling;
 use script_words::inner::Line;
 use writer::Writer;
 
@@ -110,10 +109,10 @@ fn setup(l: Line, m: Machine, src: &mut [u8], out: &mut [u8], buf: &[u8]) -> Mac
             next.other = false;
         }
         b'S' => {
-            next.len = words::copy(buf, l.count, src);
+            next.len = spelling::copy(buf, l.count, src);
         }
         b'O' => {
-            next.size = words::repeat(out, l.first, (l.second % 256) as u8);
+            next.size = spelling::repeat(out, l.first, (l.second % 256) as u8);
         }
         b'C' => {
             let c = given_cursor(l, src, m.len);
@@ -217,7 +216,8 @@ fn on_writer(l: Line, m: Machine, all: &mut [u8], buf: &[u8], line: &mut [u8]) -
 
 // n, or the number of bytes in `all` if it is less.
 fn within(all: &[u8], n: usize) -> usize
-    ensures { IsPrefixLen result all.now }
+    ensures in_bounds { result ≤ length all.now }
+    ensures prefix { result ≡ length (take result all.now) }
 {
     if all.len() < n { all.len() } else { n }
 }

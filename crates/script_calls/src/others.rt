@@ -7,7 +7,7 @@ use crate::writes::Written;
 use crate::{reads, writes};
 use bits::Order;
 use reader::{Cursor, ReadU64};
-use script_words::inner as words;
+use script_words::inner as spelling;
 use typed::{Kind, TypedRead};
 use writer::{Writer, Wrote};
 
@@ -100,7 +100,7 @@ fn remainder(c: Cursor, order: Order, src: &[u8], line: &mut [u8]) -> usize
     let end = reads::told(line, told.refusal, value, c);
     let last = crate::within(src, c.end / 8);
     let start = before(last, rest.length);
-    words::put_next_bytes(line, end, &src[start..last])
+    spelling::put_next_bytes(line, end, &src[start..last])
 }
 
 // The typed double of a typed single, both by their bits.
@@ -109,7 +109,7 @@ fn widen(bits: u64, line: &mut [u8]) -> usize
 {
     let value = typed::typed_of_bits(Kind::Single, bits);
     let wide = typed::widen_typed(value);
-    words::put_two(line, 0, typed::bits_of_typed(wide))
+    spelling::put_two(line, 0, typed::bits_of_typed(wide))
 }
 
 // The place n bytes before another, or 0 where there are fewer.

@@ -2,40 +2,48 @@
 ghost use Rattle.std.specs.Prelude.{◌≤◌, ◌+◌, length};
 
 use crate::{Done, Machine};
-use script_words::inner as words;
+use script_words::inner as spelling;
 use script_words::inner::Line;
 
 // Answers are written once they take so many of the 65,536 bytes kept for them; the longest answer line has some 8,300.
 const MANY: usize = 49152;
 
 // Reads a script, runs its lines one after the other, and writes the answers.
-pub fn run() {
+pub fn run(rt: &(impl Input + Print)) {
     let mut space = [0u8; 262144];
     let mut src = [0u8; 4096];
     let mut out = [0u8; 4096];
     let mut buf = [0u8; 4096];
     let mut lines = [0u8; 65536];
-    let n = io::read_full(0, &mut space);
-    answer(&space[..n], &mut src, &mut out, &mut buf, &mut lines);
+    let n = programs::inner::read_input(rt, &mut space).count;
+    answer(rt, &space[..n], &mut src, &mut out, &mut buf, &mut lines);
 }
 
 // Runs a script. Answers are gathered in `lines`, and written when they are many.
-fn answer(script: &[u8], src: &mut [u8], out: &mut [u8], buf: &mut [u8], lines: &mut [u8]) {
+fn answer(
+    rt: &impl Print,
+    script: &[u8],
+    src: &mut [u8],
+    out: &mut [u8],
+    buf: &mut [u8],
+    lines: &mut [u8],
+) {
     let mut m = crate::start();
     let mut at = 0;
     let mut used = 0;
     while at < script.len() {
-        let l = words::line_at(script, at, buf);
-        let done = called(l, m, src, out, buf, lines, used);
+        let l = spelling::line_at(script, at, buf);
+        let done = called(rt, l, m, src, out, buf, lines, used);
         m = done.machine;
         used = done.length;
         at = l.next;
     }
-    write(lines, used);
+    write(rt, lines, used);
 }
 
 // Runs a line behind the answers so far: the machine after it, and the end of the answers.
 fn called(
+    rt: &impl Print,
     l: Line,
     m: Machine,
     src: &mut [u8],
@@ -51,29 +59,29 @@ fn called(
     let after = done.machine;
     Done {
         machine: after,
-        length: ended(lines, used, done.length),
+        length: ended(rt, lines, used, done.length),
     }
 }
 
 // The place behind an answer and its newline, after the answers were written if they are many; the same place where there is no answer.
-fn ended(lines: &mut [u8], used: usize, count: usize) -> usize
+fn ended(rt: &impl Print, lines: &mut [u8], used: usize, count: usize) -> usize
     requires { used + count ≤ length lines.old }
     ensures { result ≤ length lines.old }
 {
     if count == 0 {
         return used;
     }
-    let end = words::put(lines, used + count, 10);
+    let end = spelling::put(lines, used + count, 10);
     if end < MANY {
         return end;
     }
-    write(lines, end);
+    write(rt, lines, end);
     0
 }
 
 // Writes the first n bytes of some answers.
-fn write(lines: &[u8], n: usize)
+fn write(rt: &impl Print, lines: &[u8], n: usize)
     requires { n ≤ length lines.now }
 {
-    let _done = io::write_all(1, &lines[..n]);
+    let _done = rt.write_all(&lines[..n]);
 }

@@ -3,7 +3,7 @@ ghost use Rattle.std.specs.Prelude.{◌≤◌, length};
 
 use bits::Order;
 use reader::{Cursor, ReadU64};
-use script_words::inner as words;
+use script_words::inner as spelling;
 
 // The cursor after a call, and the length of the answer.
 #[derive(Clone, Copy)]
@@ -27,7 +27,7 @@ pub fn call(
 {
     match letter {
         b'y' => {
-            let size = words::repeat(buf, a, 0xee);
+            let size = spelling::repeat(buf, a, 0xee);
             bytes(c, order, src, &mut buf[..size], line)
         }
         b'm' => Read {
@@ -205,7 +205,7 @@ fn bytes(c: Cursor, order: Order, src: &[u8], buf: &mut [u8], line: &mut [u8]) -
     let end = told(line, r.refusal, value, next);
     Read {
         cursor: next,
-        length: words::put_next_bytes(line, end, buf),
+        length: spelling::put_next_bytes(line, end, buf),
     }
 }
 
@@ -216,7 +216,7 @@ fn remainder(c: Cursor, order: Order, src: &[u8], line: &mut [u8]) -> usize
     let r = c.partial(order, src);
     let value = 16 * (r.partial_byte as u64) + r.partial_bits as u64;
     let end = told(line, r.refusal, value, c);
-    words::put_next_bytes(line, end, c.remainder(order, src))
+    spelling::put_next_bytes(line, end, c.remainder(order, src))
 }
 
 // The cursor itself: its end, or its other numbers.
@@ -224,9 +224,9 @@ fn shown(letter: u8, c: Cursor, line: &mut [u8]) -> usize
     ensures { result ≤ length line.old }
 {
     if letter == b'g' {
-        return words::put_one(line, c.end as u64);
+        return spelling::put_one(line, c.end as u64);
     }
-    words::put_three(line, c.offset as u64, c.lookahead as u64, c.register)
+    spelling::put_three(line, c.offset as u64, c.lookahead as u64, c.register)
 }
 
 // An answer with a value of 64 bits.
@@ -243,7 +243,7 @@ fn extend(value: u64, width: u64, line: &mut [u8]) -> usize
     ensures { result ≤ length line.old }
 {
     let r = sign::sign_extend(value, crate::narrow(width));
-    words::put_two(line, r.refusal as u64, sign::inner::bits_of_signed(r.value))
+    spelling::put_two(line, r.refusal as u64, sign::inner::bits_of_signed(r.value))
 }
 
 // double_of_single, both by their bits: `0 value`.
@@ -252,7 +252,7 @@ fn widen(bits: u64, line: &mut [u8]) -> usize
 {
     let single = floats::single_of_bits((bits % 0x1_0000_0000) as u32);
     let double = floats::double_of_single(single);
-    words::put_two(line, 0, floats::bits_of_double(double))
+    spelling::put_two(line, 0, floats::bits_of_double(double))
 }
 
 // An answer's cursor, and its line.
@@ -270,7 +270,7 @@ pub fn told_of(r: ReadU64, line: &mut [u8]) -> Read
 pub fn told(line: &mut [u8], refusal: u32, value: u64, c: Cursor) -> usize
     ensures { result ≤ length line.old }
 {
-    words::put_four(
+    spelling::put_four(
         line,
         refusal as u64,
         value,

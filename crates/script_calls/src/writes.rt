@@ -2,7 +2,7 @@
 ghost use Rattle.std.specs.Prelude.{◌≤◌, length};
 
 use bits::Order;
-use script_words::inner as words;
+use script_words::inner as spelling;
 use writer::{Writer, Wrote};
 
 // The writer after a call, and the length of the answer.
@@ -32,11 +32,11 @@ pub fn call(
         },
         b'K' => Written {
             writer: w,
-            length: words::put_three(line, w.written as u64, w.held as u64, w.number),
+            length: spelling::put_three(line, w.written as u64, w.held as u64, w.number),
         },
         b'o' => Written {
             writer: w,
-            length: words::put_marked(line, out),
+            length: spelling::put_marked(line, out),
         },
         _ => told_of(answer(letter, a, b, w, order, out, some), line),
     }
@@ -108,7 +108,7 @@ fn unaligned(w: Writer, out: &[u8], line: &mut [u8]) -> usize
     ensures { result ≤ length line.old }
 {
     let r = w.unaligned_bits(out);
-    words::put_two(line, r.refusal as u64, r.value as u64)
+    spelling::put_two(line, r.refusal as u64, r.value as u64)
 }
 
 // An answer's writer, and its line: `refusal written held`.
@@ -118,6 +118,6 @@ pub fn told_of(r: Wrote, line: &mut [u8]) -> Written
     let w = r.writer;
     Written {
         writer: w,
-        length: words::put_three(line, r.refusal as u64, w.written as u64, w.held as u64),
+        length: spelling::put_three(line, r.refusal as u64, w.written as u64, w.held as u64),
     }
 }

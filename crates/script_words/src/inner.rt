@@ -1,6 +1,5 @@
 // Reading words behind a place in a text, and writing words behind a line's end. A line takes what there is room for.
-ghost use Rattle.std.specs.Prelude.{◌≤◌, ◌<◌, ◌+◌, length};
-ghost use Rattle.io.specs.Counts.{IsPrefixLen};
+ghost use Rattle.std.specs.Prelude.{◌≡◌, ◌≤◌, ◌<◌, ◌+◌, length, take};
 
 // A number, and the place behind it.
 #[derive(Clone, Copy)]
@@ -256,7 +255,8 @@ pub fn put_marked(line: &mut [u8], some: &[u8]) -> usize
 
 // Writes n bytes b at the start of `out`, or as many as there is room for; the answer is their count.
 pub fn repeat(out: &mut [u8], n: u64, b: u8) -> usize
-    ensures { IsPrefixLen result out.new }
+    ensures in_bounds { result ≤ length out.new }
+    ensures prefix { result ≡ length (take result out.new) }
 {
     let mut i = 0;
     while i < out.len() {
