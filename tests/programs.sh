@@ -442,7 +442,7 @@ judged 'files of all kinds' 1 'night: ok\na bad night: record 1 rule 3\n-tail: b
 mkdir "$work/bin" && printf '#!/bin/sh\necho another\n' >"$work/bin/rt" && chmod +x "$work/bin/rt" || exit 2
 PATH=$work/bin:$PATH ./strip list <examples/night.strip >"$work/out" 2>"$work/said" && fail './strip over another kit ended well'
 grep -q "^strip: another kit: 'rt version' says 'another'" "$work/said" || fail './strip does not tell that the kit is another'
-printf '#!/bin/sh\n[ "$1" = check ] || exec "%s" "$@"\nexit 1\n' "$(command -v rt)" >"$work/bin/rt"
+printf '#!/bin/sh\n[ "$1" = run ] || exec "%s" "$@"\nexit 1\n' "$(command -v rt)" >"$work/bin/rt"
 cp -p target/checked-striplist "$work/checked" && touch -t 200001010000 target/checked-striplist || exit 2
 PATH=$work/bin:$PATH ./strip list <examples/night.strip >"$work/out" 2>"$work/said" && fail './strip ran a program whose crates are not proved'
 [ ! -s "$work/out" ] || fail './strip wrote something by a program whose crates are not proved'

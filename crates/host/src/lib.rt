@@ -1,4 +1,5 @@
-// The phone's C host: the refusal number and the value of a field at a bit place, with no cursor.
+// The phone's C host: the refusal number and the value of a field at a bit place, with no cursor. A library exports nothing to C: what C
+// links is made of the crate host_c, whose two functions call these.
 #![tactic(auto)]
 
 ghost use Rattle.std.specs.Prelude.{◌≡◌, length};
