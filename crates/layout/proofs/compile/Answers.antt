@@ -12,9 +12,9 @@ use Rattle.layout.proofs.compile.Goals.{After-put_plan-arg-1, After-slice_known-
 pub returns-then-refusal-ne-DONE : goal.returns-then-refusal-ne-DONE
 unfolding compile_of compile_out
 returns-then-refusal-ne-DONE c = rw (← c.compile_refusal-refusal.ensures, ne_eqb _ done c.if-refusal-ne-DONE.true) (record {
-      answer = refl;
-      memory = refl;
-    })
+  answer = refl;
+  memory = refl;
+})
 
 -- nothing is refused
 accepted_1 : (c : After-put_plan-arg-1) →

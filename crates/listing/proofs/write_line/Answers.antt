@@ -18,9 +18,9 @@ use Rattle.listing.proofs.write_line.Goals.{After-put_line-arg-1, After-slice_kn
 pub returns-then-out-gt-LONGEST : goal.returns-then-out-gt-LONGEST
 unfolding write_line write_out write_refusal first_refusal or_else
 returns-then-out-gt-LONGEST c = let h = lt-ltb _ _ c.if-out-gt-LONGEST.true in record {
-      answer = rw h;
-      memory = rw h;
-    }
+  answer = rw h;
+  memory = rw h;
+}
 
 -- the record fits its fields
 fitting_1 : (c : Then-fits) → fits c.args.r ≡ true

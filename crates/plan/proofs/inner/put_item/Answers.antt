@@ -26,12 +26,12 @@ bounds-layout-at-then-ends c =
 
 pub returns-then-ends : goal.returns-then-ends
 returns-then-ends c = rw (ended c) (record {
-      answer = refl;
-      memory = rw add-one;
-    })
+  answer = refl;
+  memory = rw add-one;
+})
 
 pub returns : goal.returns
 returns c = rw (← c.ends.ensures, c.if-ends.false) (record {
-      answer = refl;
-      memory = refl;
-    })
+  answer = refl;
+  memory = refl;
+})

@@ -4,7 +4,6 @@ use Prim.Native.Nat.{◌+◌, ◌-◌, ◌*◌, ◌<◌, ◌≤◌}
 use mathlib.Core.Path.{◌≡◌, refl, sym, ◌∙◌}
 use mathlib.Core.Bool.{true}
 use mathlib.Core.List.{[]}
-
 use native.Mathlib.Omega.{arith}
 use lib.ListN.{length, drop, get_or}
 use lib.Seq.{drop-length}
@@ -45,7 +44,7 @@ ready_1 c =
     let plan = c.args.plan.now in
     let there = c.loop-i-test.true in
     elim c.if-plan-i-eq0.branch [
-      then-plan-i-eq0+then-wanted w ↦ let (more, low) = w.wanted.ensures w.if-wanted.true in rw (w.i-is, w.g-is) (ready_late plan l.i l.g there w.if-plan-i-eq0.true more low)
+      | then-plan-i-eq0+then-wanted w ↦ let (more, low) = w.wanted.ensures w.if-wanted.true in rw (w.i-is, w.g-is) (ready_late plan l.i l.g there w.if-plan-i-eq0.true more low)
       | else-plan-i-eq0 w ↦ rw (w.i-is, w.g-is) (ready_plain plan l.i l.g there l.invariant.2 w.if-plan-i-eq0.false)
     ]
 
@@ -75,7 +74,7 @@ ready_2 c =
     let plan = c.args.plan.now in
     let there = c.loop-i-test.true in
     elim c.if-plan-i-eq0.branch [
-      then-plan-i-eq0+then-wanted w ↦ let (more, low) = w.wanted.ensures w.if-wanted.true in rw (w.i-is, w.g-is) (ready_late plan l.i l.g there w.if-plan-i-eq0.true more low)
+      | then-plan-i-eq0+then-wanted w ↦ let (more, low) = w.wanted.ensures w.if-wanted.true in rw (w.i-is, w.g-is) (ready_late plan l.i l.g there w.if-plan-i-eq0.true more low)
       | else-plan-i-eq0 w ↦ rw (w.i-is, w.g-is) (ready_plain plan l.i l.g there l.invariant.2 w.if-plan-i-eq0.false)
     ]
 
@@ -106,7 +105,7 @@ ready_3 c =
     let plan = c.args.plan.now in
     let there = c.loop-i-test.true in
     elim c.if-plan-i-eq0.branch [
-      then-plan-i-eq0+then-wanted w ↦ let (more, low) = w.wanted.ensures w.if-wanted.true in rw (w.i-is, w.g-is) (ready_late plan l.i l.g there w.if-plan-i-eq0.true more low)
+      | then-plan-i-eq0+then-wanted w ↦ let (more, low) = w.wanted.ensures w.if-wanted.true in rw (w.i-is, w.g-is) (ready_late plan l.i l.g there w.if-plan-i-eq0.true more low)
       | else-plan-i-eq0 w ↦ rw (w.i-is, w.g-is) (ready_plain plan l.i l.g there l.invariant.2 w.if-plan-i-eq0.false)
     ]
 
@@ -141,7 +140,7 @@ ready_4 c =
     let plan = c.args.plan.now in
     let there = c.loop-i-test.true in
     elim c.if-plan-i-eq0.branch [
-      then-plan-i-eq0+then-wanted w ↦ let (more, low) = w.wanted.ensures w.if-wanted.true in rw (w.i-is, w.g-is) (ready_late plan l.i l.g there w.if-plan-i-eq0.true more low)
+      | then-plan-i-eq0+then-wanted w ↦ let (more, low) = w.wanted.ensures w.if-wanted.true in rw (w.i-is, w.g-is) (ready_late plan l.i l.g there w.if-plan-i-eq0.true more low)
       | else-plan-i-eq0 w ↦ rw (w.i-is, w.g-is) (ready_plain plan l.i l.g there l.invariant.2 w.if-plan-i-eq0.false)
     ]
 
@@ -176,7 +175,7 @@ ready_5 c =
     let plan = c.args.plan.now in
     let there = c.loop-i-test.true in
     elim c.if-plan-i-eq0.branch [
-      then-plan-i-eq0+then-wanted w ↦ let (more, low) = w.wanted.ensures w.if-wanted.true in rw (w.i-is, w.g-is) (ready_late plan l.i l.g there w.if-plan-i-eq0.true more low)
+      | then-plan-i-eq0+then-wanted w ↦ let (more, low) = w.wanted.ensures w.if-wanted.true in rw (w.i-is, w.g-is) (ready_late plan l.i l.g there w.if-plan-i-eq0.true more low)
       | else-plan-i-eq0 w ↦ rw (w.i-is, w.g-is) (ready_plain plan l.i l.g there l.invariant.2 w.if-plan-i-eq0.false)
     ]
 
@@ -199,7 +198,7 @@ ready_6 c =
     let plan = c.args.plan.now in
     let there = c.loop-i-test.true in
     elim c.if-plan-i-eq0.branch [
-      then-plan-i-eq0+then-wanted w ↦ let (more, low) = w.wanted.ensures w.if-wanted.true in rw (w.i-is, w.g-is) (ready_late plan l.i l.g there w.if-plan-i-eq0.true more low)
+      | then-plan-i-eq0+then-wanted w ↦ let (more, low) = w.wanted.ensures w.if-wanted.true in rw (w.i-is, w.g-is) (ready_late plan l.i l.g there w.if-plan-i-eq0.true more low)
       | else-plan-i-eq0 w ↦ rw (w.i-is, w.g-is) (ready_plain plan l.i l.g there l.invariant.2 w.if-plan-i-eq0.false)
     ]
 
@@ -244,9 +243,9 @@ shape_of-values-else-wanted c = c.loop-i.invariant.5.size
 
 pub returns-else-wanted : goal.returns-else-wanted
 returns-else-wanted c = record {
-      answer = λ h. absurd (omega (arith, c.not_narrow.ensures));
-      memory = λ h. absurd (omega (arith, c.not_narrow.ensures));
-    }
+  answer = λ h. absurd (omega (arith, c.not_narrow.ensures));
+  memory = λ h. absurd (omega (arith, c.not_narrow.ensures));
+}
 
 pub not_narrow-requires-then-g-w : goal.not_narrow-requires-then-g-w
 not_narrow-requires-then-g-w c = omega arith
@@ -256,9 +255,9 @@ shape_of-values-then-g-w c = c.loop-i.invariant.5.size
 
 pub returns-then-g-w : goal.returns-then-g-w
 returns-then-g-w c = record {
-      answer = λ h. absurd (omega (arith, c.not_narrow-then-g-w.ensures));
-      memory = λ h. absurd (omega (arith, c.not_narrow-then-g-w.ensures));
-    }
+  answer = λ h. absurd (omega (arith, c.not_narrow-then-g-w.ensures));
+  memory = λ h. absurd (omega (arith, c.not_narrow-then-g-w.ensures));
+}
 
 pub not_narrow-requires-then-j-eq64 : goal.not_narrow-requires-then-j-eq64
 not_narrow-requires-then-j-eq64 c = omega arith
@@ -268,9 +267,9 @@ shape_of-values-then-j-eq64 c = c.loop-i.invariant.5.size
 
 pub returns-then-j-eq64 : goal.returns-then-j-eq64
 returns-then-j-eq64 c = record {
-      answer = λ h. absurd (omega (arith, c.not_narrow-then-j-eq64.ensures));
-      memory = λ h. absurd (omega (arith, c.not_narrow-then-j-eq64.ensures));
-    }
+  answer = λ h. absurd (omega (arith, c.not_narrow-then-j-eq64.ensures));
+  memory = λ h. absurd (omega (arith, c.not_narrow-then-j-eq64.ensures));
+}
 
 pub not_narrow-requires-else-ends : goal.not_narrow-requires-else-ends
 not_narrow-requires-else-ends c = omega arith
@@ -280,9 +279,9 @@ shape_of-values-else-ends c = c.loop-i.invariant.5.size
 
 pub returns-else-ends : goal.returns-else-ends
 returns-else-ends c = record {
-      answer = λ h. absurd (omega (arith, c.not_narrow-else-ends.ensures));
-      memory = λ h. absurd (omega (arith, c.not_narrow-else-ends.ensures));
-    }
+  answer = λ h. absurd (omega (arith, c.not_narrow-else-ends.ensures));
+  memory = λ h. absurd (omega (arith, c.not_narrow-else-ends.ensures));
+}
 
 pub shape_of-values : goal.shape_of-values
 shape_of-values c = c.loop-i.invariant.5.size

@@ -60,6 +60,6 @@ written_3 c =
 
 pub returns : goal.returns
 returns c = record {
-      answer = rw (written_3 c, bytes_items) at c.fields.ensures.answer;
-      memory = rw (written_3 c, bytes_items) at c.fields.ensures.memory;
-    }
+  answer = rw (written_3 c, bytes_items) at c.fields.ensures.answer;
+  memory = rw (written_3 c, bytes_items) at c.fields.ensures.memory;
+}

@@ -71,12 +71,12 @@ module _ (o : Order) (s : List ℕ) (from : Cursor) (bits : ℕ) (granted : read
       → full ≡ state_of o s (after_refill (length s) (counts_of m))
       → high ≡ read_of o s (with_state from full) (bits - 56)
       → high ≡
-          (let from-rest = rest_at o s from bits wider granted in
-          record {
-            refusal = done;
-            value = field o s (place from-rest) (bits - 56);
-            cursor = cursor_at o s from (after_read (length s) (bits - 56) (after_refill (length s) (after_read (length s) 56 (counts_in from))));
-          })
+      (let from-rest = rest_at o s from bits wider granted in
+      record {
+        refusal = done;
+        value = field o s (place from-rest) (bits - 56);
+        cursor = cursor_at o s from (after_read (length s) (bits - 56) (after_refill (length s) (after_read (length s) 56 (counts_in from))));
+      })
   unfolding cursor_at
   high_is e f g h =
       let full_is = g ∙ ap (λ (x : State). state_of o s (after_refill (length s) (counts_of x))) (middle_is e f) in

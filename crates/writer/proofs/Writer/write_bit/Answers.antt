@@ -12,6 +12,6 @@ as_number false = refl
 
 pub returns : goal.returns
 returns c = rw (as_number c.args.value) (record {
-      answer = c.write_bits.ensures.answer;
-      memory = c.write_bits.ensures.memory;
-    })
+  answer = c.write_bits.ensures.answer;
+  memory = c.write_bits.ensures.memory;
+})

@@ -7,6 +7,6 @@ use Rattle.writer.proofs.Writer.write_f32.Goals as goal
 pub returns : goal.returns
 unfolding retired_of
 returns c = record {
-      answer = rw c.single_refusal.ensures;
-      memory = refl;
-    }
+  answer = rw c.single_refusal.ensures;
+  memory = refl;
+}

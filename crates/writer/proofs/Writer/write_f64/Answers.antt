@@ -4,6 +4,6 @@ use Rattle.writer.proofs.Writer.write_f64.Goals as goal
 
 pub returns : goal.returns
 returns c = rw (← c.bits_of_double.ensures) (record {
-      answer = c.write_bits.ensures.answer;
-      memory = c.write_bits.ensures.memory;
-    })
+  answer = c.write_bits.ensures.answer;
+  memory = c.write_bits.ensures.memory;
+})

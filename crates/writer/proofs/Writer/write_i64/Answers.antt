@@ -6,6 +6,6 @@ use Rattle.writer.proofs.Writer.write_i64.Goals as goal
 
 pub returns : goal.returns
 returns c = let b = c in rw (← to_z-of_z w64 b.args.value b.ranges.value) (record {
-      answer = c.write_signed_bits.ensures.answer;
-      memory = c.write_signed_bits.ensures.memory;
-    })
+  answer = c.write_signed_bits.ensures.answer;
+  memory = c.write_signed_bits.ensures.memory;
+})

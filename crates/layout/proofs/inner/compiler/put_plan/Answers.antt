@@ -54,6 +54,6 @@ shape_of-out c = ap length (all c).made ∙ simp length-sets
 
 pub returns : goal.returns
 returns c = record {
-      answer = ap (λ (p : Put). p.at) (all c).next ∙ zero-add _;
-      memory = (all c).made;
-    }
+  answer = ap (λ (p : Put). p.at) (all c).next ∙ zero-add _;
+  memory = (all c).made;
+}
