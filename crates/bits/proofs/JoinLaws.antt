@@ -1,6 +1,6 @@
 -- Laws of joining bits and taking them apart again, over the order and the widths.
 use mathlib.Core.Path.{◌≡◌, sym, ap, ◌∙◌, subst}
-use Prim.Native.Nat.{ℕ, ◌+◌, ◌-◌, ◌*◌, ◌^◌, ◌<◌}
+use Prim.Native.Nat.{ℕ, ◌+◌, ◌*◌, ◌^◌, ◌<◌}
 use native.Mathlib.Nat.{add_comm, add_assoc, mul_comm, mul_assoc, add-mul, add-zero, zero-add, mul-one, zero-mul, mod-lt, mod-eq_of_lt, div-one}
 use lib.Arith.{digits_lt}
 use lib.Pow.{pow_pos, pow-add, high, low, split, shr_lt}

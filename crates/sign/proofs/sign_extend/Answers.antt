@@ -1,10 +1,9 @@
 -- `sign_extend` meets its contract: it refuses by the tests of `extend_of`, in that order, and else answers as `extend` does. Assumes nothing.
-use Rattle.std.proofs.Common.{◌^◌, ◌<◌, ◌≤◌, sym, ◌∙◌, w64, rules, ltb-false, ltb-true, le-ltb, lt-ltb, le-leb}
+use Rattle.std.proofs.Common.{◌^◌, ◌<◌, ◌≤◌, sym, ◌∙◌, w64, ltb-false, ltb-true, le-ltb, lt-ltb, le-leb}
 use mir.ValLaws.{to_z-of_z}
 use borrow.Author.Tests.{lt-leb}
 use Rattle.bits.specs.Refusals.{or_else, first_refusal}
 use Rattle.sign.specs.Extend.{extend_refusal, extend_of}
-use Rattle.std.proofs.Common.{rules}
 use Rattle.sign.proofs.sign_extend.Goals as goal
 
 -- the value fits its width

@@ -3,7 +3,6 @@ use native.Mathlib.Nat.{zero-mul, zero-add, add-zero}
 use Rattle.bits.specs.Field.{join}
 use Rattle.bits.specs.Word.{held}
 use Rattle.bits.proofs.WordLaws.{to_the_top}
-use Rattle.std.proofs.Common.{rules}
 use Rattle.bits.proofs.inner.hold_bits.Goals as goal
 
 pub returns-in-Little : goal.returns-in-Little

@@ -4,7 +4,6 @@ use Prim.Native.Nat.{ℕ, ◌<◌, ◌^◌}
 use native.Mathlib.Omega.{arith}
 use Rattle.bits.specs.Field.{join}
 use Rattle.bits.proofs.WordLaws.{above}
-use Rattle.std.proofs.Common.{rules}
 use Rattle.bits.proofs.inner.join_bits.Goals as goal
 
 pub overflow_add-result : goal.overflow_add-result

@@ -4,7 +4,6 @@ use Prim.Native.Nat.{ℕ, ◌≤◌}
 use lib.Pow.{pow_pos}
 use Rattle.bits.specs.Word.{rest}
 use Rattle.bits.proofs.WordLaws.{one_shl, mask_is}
-use Rattle.std.proofs.Common.{rules}
 use Rattle.bits.proofs.inner.last_part.Goals as goal
 
 pub overflow_sub-result : goal.overflow_sub-result

@@ -1,6 +1,5 @@
 -- `skip_bits` meets its contract, which is the shift of each order. Assumes nothing.
 use Rattle.bits.specs.Word.{skipped}
-use Rattle.std.proofs.Common.{rules}
 use Rattle.bits.proofs.inner.skip_bits.Goals as goal
 
 pub returns-in-Little : goal.returns-in-Little

@@ -1,6 +1,5 @@
 -- `by_order` meets its contract: each arm is a case of `by_order`. Assumes nothing.
 use Rattle.octets.specs.Octets.{by_order}
-use Rattle.std.proofs.Common.{rules}
 use Rattle.octets.proofs.inner.by_order.Goals as goal
 
 pub returns-in-Little : goal.returns-in-Little

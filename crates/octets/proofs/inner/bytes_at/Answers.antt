@@ -5,7 +5,6 @@ use Prim.Native.Nat.{ℕ, ◌+◌, ◌*◌, ◌/◌, ◌%◌, ◌^◌, ◌<◌}
 use native.Mathlib.Omega.{arith}
 use lib.ListN.{get_or}
 use Rattle.octets.proofs.OctetsLaws.{octets_bytes}
-use Rattle.std.proofs.Common.{rules}
 use Rattle.octets.proofs.inner.bytes_at.Goals as goal
 
 pub returns-then-n-eq0 : goal.returns-then-n-eq0

@@ -1,10 +1,9 @@
 -- `copy_from` meets its contract: each turn puts the next byte behind those that stand already (`Upto`). Assumes nothing.
 use mathlib.Core.Path.{refl}
-use Prim.Native.Nat.{◌+◌, ◌-◌}
+use Prim.Native.Nat.{◌+◌}
 use native.Mathlib.Omega.{arith}
-use lib.ListN.{length, get_or, length-set}
-use Rattle.octets.proofs.FirstsLaws.{Upto, upto_none, upto_next, upto_all}
-use Rattle.std.proofs.Common.{rules}
+use lib.ListN.{get_or, length-set}
+use Rattle.octets.proofs.FirstsLaws.{upto_none, upto_next, upto_all}
 use Rattle.octets.proofs.inner.copy_from.Goals as goal
 
 pub loop-i-init : goal.loop-i-init

@@ -1,9 +1,7 @@
 -- `copy_from` meets its contract: each turn puts the next byte behind those that stand already (`Upto`). Assumes nothing.
-use mathlib.Core.Path.{refl}
 use Prim.Native.Nat.{◌+◌, ◌-◌}
-use native.Mathlib.Omega.{arith}
-use lib.ListN.{length, get_or, length-set}
-use Rattle.octets.proofs.FirstsLaws.{Upto, upto_none, upto_next, upto_all}
+use lib.ListN.{length, get_or}
+use Rattle.octets.proofs.FirstsLaws.{Upto}
 use Rattle.octets.proofs.inner.copy_from.Given as goal
 
 abbrev pub invariant-loop-i : goal.invariant-loop-i

@@ -8,7 +8,6 @@ use Rattle.bits.specs.Field.{field}
 use Rattle.octets.specs.Octets.{octets, by_order, straddled}
 use Rattle.octets.proofs.FirstsLaws.{firsts_same}
 use Rattle.octets.proofs.OctetsLaws.{either_way, straddled-field}
-use Rattle.std.proofs.Common.{rules}
 use Rattle.octets.proofs.inner.read_n_bytes.Goals as goal
 
 pub straddle_from-requires : goal.straddle_from-requires

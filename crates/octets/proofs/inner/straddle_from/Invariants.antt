@@ -1,10 +1,9 @@
 -- `straddle_from` meets its contract: each turn puts the next straddle behind those that stand already (`Upto`). Assumes nothing.
 use Prim.Native.Nat.{ℕ, ◌+◌, ◌-◌}
-use native.Mathlib.Omega.{arith}
 use mathlib.Core.List.{List}
-use lib.ListN.{length, get_or, length-set}
+use lib.ListN.{length, get_or}
 use Rattle.octets.specs.Octets.{straddled}
-use Rattle.octets.proofs.FirstsLaws.{Upto, upto_none, upto_next, upto_all}
+use Rattle.octets.proofs.FirstsLaws.{Upto}
 use Rattle.octets.proofs.inner.straddle_from.Given as goal
 
 -- byte i of what is filled in

@@ -4,7 +4,6 @@ use lib.Signed.{mag}
 use mir.ValLaws.{to_z-of_z}
 use Rattle.sign.proofs.SignedLaws.{pattern_of_z}
 use Rattle.sign.proofs.FlipLaws.{complement, complement-fits, complement_read, negative, nonnegative}
-use Rattle.std.proofs.Common.{rules}
 use Rattle.sign.proofs.inner.bits_of_signed.Goals as goal
 
 -- below 0: the number, and its complement as the machine reads it

@@ -1,10 +1,9 @@
 -- `extend` meets its contract: width 64 is the word's own, and below it twice the top bit less is the signed meaning (`top_subtracted`). Assumes nothing.
-use Rattle.std.proofs.Common.{◌*◌, ◌^◌, ◌<◌, ◌≤◌, ◌∙◌, lt_of_le_of_lt, mul-le-mul, arith, lit≤, pow_mono, w64, rules}
+use Rattle.std.proofs.Common.{◌*◌, ◌^◌, ◌<◌, ◌≤◌, ◌∙◌, lt_of_le_of_lt, mul-le-mul, arith, lit≤, pow_mono, w64}
 use lib.Bits.{and_le_l}
 use mir.ValLaws.{to_z-of_z}
 use Rattle.bits.specs.Signed.{signed}
 use Rattle.sign.proofs.TopBitLaws.{top_subtracted}
-use Rattle.std.proofs.Common.{rules}
 use Rattle.sign.proofs.inner.extend.Goals as goal
 
 pub overflow_mul-top : goal.overflow_mul-top

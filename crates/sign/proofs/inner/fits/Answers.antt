@@ -1,7 +1,6 @@
 -- `fits` meets its contract: every value fits 64 bits, and below that the shift is the power. Assumes nothing.
-use Rattle.std.proofs.Common.{◌^◌, sym, arith, rules, lt-ltb}
+use Rattle.std.proofs.Common.{◌^◌, sym, arith, lt-ltb}
 use Rattle.bits.proofs.WordLaws.{one_shl}
-use Rattle.std.proofs.Common.{rules}
 use Rattle.sign.proofs.inner.fits.Goals as goal
 
 pub returns-then-bits-eq64 : goal.returns-then-bits-eq64

@@ -1,9 +1,8 @@
 -- `signed_of_bits` meets its contract: the lower half is cast as it is, and of the upper half the complement is, and turned back. Assumes nothing.
-use Rattle.std.proofs.Common.{◌≡◌, suc, ◌-◌, ◌^◌, negsuc, sym, ap, ◌∙◌, arith, w64, SFits, to_z, rules}
+use Rattle.std.proofs.Common.{◌≡◌, suc, ◌-◌, ◌^◌, negsuc, sym, ap, ◌∙◌, arith, w64, SFits, to_z}
 use mir.ValLaws.{Fits-not, to_z-Fits, to_z_pos}
 use Rattle.sign.proofs.SignedLaws.{signed_to_z, signed_high}
 use Rattle.sign.proofs.FlipLaws.{complement, complement-fits, complement_read}
-use Rattle.std.proofs.Common.{rules}
 use Rattle.sign.proofs.inner.signed_of_bits.Goals as goal
 
 -- the complement, as the machine reads it

@@ -1,10 +1,9 @@
 -- `widened` meets its contract: the bits of what `extend` makes of the field at the top of a word, moved back. Assumes nothing.
-use Rattle.std.proofs.Common.{◌≡◌, ℕ, ◌-◌, ◌^◌, ℤ, ap, ◌∙◌, lt_of_le_of_lt, arith, w64, SFits, to_z, of_z, rules}
+use Rattle.std.proofs.Common.{◌≡◌, ℕ, ◌-◌, ◌^◌, ℤ, ap, ◌∙◌, lt_of_le_of_lt, arith, w64, SFits, to_z, of_z}
 use lib.Signed.{mag_shr, shr_z}
 use mir.ValLaws.{to_z-of_z}
 use Rattle.bits.specs.Signed.{signed, pattern}
 use Rattle.sign.proofs.TopBitLaws.{moved_back}
-use Rattle.std.proofs.Common.{rules}
 use Rattle.sign.proofs.inner.widened.Goals as goal
 
 pub returns-then-bits-eq0 : goal.returns-then-bits-eq0

@@ -1,6 +1,6 @@
 -- `load_bytes` meets its contract: a byte, and the bytes after it by the call, which has one less to load. Assumes nothing.
 use mathlib.Core.Path.{◌≡◌, refl, ap, ap₂, ◌∙◌}
-use Prim.Native.Nat.{ℕ, ◌+◌, ◌-◌, ◌*◌, ◌<◌}
+use Prim.Native.Nat.{ℕ, ◌+◌, ◌-◌, ◌*◌}
 use native.Mathlib.Omega.{arith}
 use Rattle.bits.specs.Field.{join, field}
 use Rattle.bits.proofs.FieldLaws.{field_lt}

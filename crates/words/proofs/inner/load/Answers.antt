@@ -1,5 +1,4 @@
 -- `load` meets its contract: each arm calls what loads in its order, and eight bytes are there unless the test says otherwise. Assumes nothing.
-use Rattle.std.proofs.Common.{rules}
 use Rattle.words.proofs.inner.load.Goals as goal
 
 pub returns-then-src-at : goal.returns-then-src-at

@@ -5,7 +5,6 @@ use mathlib.Core.List.{List}
 use lib.ListN.{length}
 use lib.Seq.{take-length}
 use Rattle.bits.specs.Field.{field}
-use Rattle.std.proofs.Common.{rules}
 use Rattle.words.proofs.inner.load_end.Goals as goal
 
 pub slice_bounds-load_bytes-end : goal.slice_bounds-load_bytes-end

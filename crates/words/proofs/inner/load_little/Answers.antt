@@ -1,7 +1,6 @@
 -- `load_little` meets its contract: a little-endian field of 64 bits is its eight bytes, the last the most significant (`little8`). Assumes nothing.
 use mathlib.Core.Path.{sym, ◌∙◌}
 use Rattle.words.proofs.EightLaws.{little8}
-use Rattle.std.proofs.Common.{rules}
 use Rattle.words.proofs.inner.load_little.Goals as goal
 
 pub returns : goal.returns

@@ -2,7 +2,6 @@
 use mathlib.Core.Path.{ap, ◌∙◌}
 use Rattle.words.specs.Eight.{swapped}
 use Rattle.words.proofs.EightLaws.{swapped-field}
-use Rattle.std.proofs.Common.{rules}
 use Rattle.words.proofs.inner.load_whole.Goals as goal
 
 pub returns-in-Little : goal.returns-in-Little

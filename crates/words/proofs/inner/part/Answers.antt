@@ -2,7 +2,6 @@
 use mathlib.Core.Path.{ap, ◌∙◌}
 use Prim.Native.Nat.{◌-◌}
 use Rattle.bits.specs.Word.{first}
-use Rattle.std.proofs.Common.{rules}
 use Rattle.words.proofs.inner.part.Goals as goal
 
 pub returns : goal.returns

@@ -3,7 +3,6 @@ use mathlib.Core.Path.{ap, ◌∙◌}
 use Prim.Native.Nat.{ℕ, ◌-◌, ◌%◌}
 use Rattle.bits.specs.Word.{first, skipped}
 use Rattle.words.proofs.EightLaws.{in_window}
-use Rattle.std.proofs.Common.{rules}
 use Rattle.words.proofs.inner.short_field.Goals as goal
 
 pub returns : goal.returns
