@@ -11,7 +11,7 @@ import collections, glob, os, re, sys
 
 os.chdir(os.path.dirname(os.path.dirname(os.path.abspath(__file__))))
 WORD = re.compile(r'[^\s(){}\[\],;"]+')
-USE = re.compile(r'^(?:ghost )?use Rattle·(\w+?)(?:·specs)?\.specs\.([\w.]+?)(?:\.\{([^}]*)\}| as (\w+));?$')
+USE = re.compile(r'^(?:ghost )?use Rattle\.(\w+)\.specs\.([\w.]+?)(?:\.\{([^}]*)\}| as (\w+));?$')
 
 
 def imports(text):
@@ -31,14 +31,14 @@ def imports(text):
 
 
 def meant(word, names, modules, own):
-    """The definition that a word of a file names, if any."""
-    if word in names:
-        return names[word]
-    if word in own:
-        return own[word]
-    module, dot, name = word.partition('.')
-    if dot and module in modules:
-        return modules[module] + (name,)
+    """The definition that a word of a file names, if any; fields may be taken of it, as in `none.count`."""
+    first, *more = word.split('.')
+    if first in names:
+        return names[first]
+    if first in own:
+        return own[first]
+    if more and first in modules:
+        return modules[first] + (more[0],)
     return None
 
 
@@ -63,18 +63,18 @@ for path in sorted(glob.glob('crates/*/specs/*.antt')):
             signature = re.match(r'\s*(?:(?:abbrev|unfoldable|pub) )*(\S+) :', line) or re.match(r'(?:pub )?(?:record|data) (\S+)', line)
             if signature:
                 definitions.setdefault((crate, module, signature[1]), key)
-                if '_' in signature[1]:
-                    definitions.setdefault((crate, module, signature[1].strip('_')), key)
+                if '◌' in signature[1]:
+                    definitions.setdefault((crate, module, signature[1].strip('◌')), key)
 for (crate, module, n), block in lines_of.items():
     text = open(f'crates/{crate}/specs/{module}.antt', encoding='utf-8').read()
     names, modules = imports(text)
-    names = {w.strip('_') if '_' in w else w: v for w, v in names.items()}
+    names = {w.strip('◌'): v for w, v in names.items()}
     own = {name: (crate, module, name) for c, m, name in definitions if (c, m) == (crate, module)}
     found = set()
     for word in WORD.findall('\n'.join(block)):
         d = meant(word, names, modules, own)
         if d:
-            d = d[:2] + (d[2].strip('_') if d not in definitions else d[2],)
+            d = d[:2] + (d[2].strip('◌') if d not in definitions else d[2],)
             if d in definitions:
                 found.add(definitions[d])
     cited[crate, module, n] = found
@@ -86,7 +86,7 @@ for path in sorted(glob.glob('crates/*/src/**/*.rt', recursive=True)):
         continue
     text = open(path, encoding='utf-8').read()
     names, modules = imports(text)
-    for clause in re.findall(r'^\s*ensures.*?\{ (λ.*?)\}$', text, re.M | re.S):
+    for clause in re.findall(r'^\s*ensures(?: \w+)? \{ (.*?)\}$', text, re.M | re.S):
         contracts += clause.count('\n') + 1
         for word in WORD.findall(clause):
             d = meant(word, names, modules, {})
