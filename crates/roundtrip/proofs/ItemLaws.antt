@@ -47,7 +47,7 @@ unfolding worth bits
 worth_lt o n (unsigned_fits a b) = b
 worth_lt o n (signed-fits {w} {z} a b) = pattern_lt w z
 worth_lt o n (bytes_fit {bs} h l) = field_lt o bs 0 (8 * length bs)
-worth_lt o n flush_fits = pow_pos ((8 - n % 8) % 8)
+worth_lt o n flush_fits = pow_pos (bits n flush)
 
 -- ---- written
 
