@@ -192,18 +192,18 @@ module _ (s out : List ℕ) (short : length s ≤ longest) (short' : length out 
 -- ---- answers by their refusal
 
 module _ (s : List ℕ) (len : ℕ) where
-  abbrev rows_done_lem : Rows
-  rows_done_lem = record { refusal = done; length = length (strip_rows s); tail_good = tail_good s }
+  abbrev done_rows : Rows
+  done_rows = record { refusal = done; length = length (strip_rows s); tail_good = tail_good s }
 
-  abbrev rows_refused_lem : ℕ → Rows
-  rows_refused_lem e = record { refusal = e; length = 0; tail_good = false }
+  abbrev refused_rows : ℕ → Rows
+  refused_rows e = record { refusal = e; length = 0; tail_good = false }
 
-  pub rows_by : {e : ℕ} → rows_refusal s len ≡ e → rows_of s len ≡ if_done e rows_done_lem (rows_refused_lem e)
+  pub rows_by : {e : ℕ} → rows_refusal s len ≡ e → rows_of s len ≡ if_done e done_rows (refused_rows e)
   unfolding rows_of
-  rows_by p = ap (λ (k : ℕ). if_done k rows_done_lem (rows_refused_lem k)) p
+  rows_by p = ap (λ (k : ℕ). if_done k done_rows (refused_rows k)) p
 
   pub rows_number : (rows_of s len).refusal ≡ rows_refusal s len
-  rows_number = ap (λ (a : Rows). a.refusal) (rows_by refl) ∙ number_of (λ (a : Rows). a.refusal) (rows_refusal s len) rows_done_lem (rows_refused_lem (rows_refusal s len)) refl refl
+  rows_number = ap (λ (a : Rows). a.refusal) (rows_by refl) ∙ number_of (λ (a : Rows). a.refusal) (rows_refusal s len) done_rows (refused_rows (rows_refusal s len)) refl refl
 
   abbrev packed_done : Packed
   packed_done = record { refusal = done; row = 0; length = length (rows_strip s); tail_good = rows_whole s }

@@ -20,8 +20,8 @@ use Rattle.rows.specs.Row.{columns_at, in_range, within, letter_t, letter_f}
 use Rattle.rows.proofs.ColumnLaws.{parts, within_signed}
 
 -- whether the columns' bits, as numbers from 0, are those of a record
-abbrev pub good_numbers_lem : ℕ → ℕ → ℕ → ℕ → ℕ → Bool
-good_numbers_lem star date letter error filter =
+abbrev pub good_numbers : ℕ → ℕ → ℕ → ℕ → ℕ → Bool
+good_numbers star date letter error filter =
     ltb star (2 ^ star_bits) && (ltb date (2 ^ date_bits) && ((eqb letter letter_t || eqb letter letter_f) && (ltb error (2 ^ error_bits) && ltb filter (2 ^ filter_bits))))
 
 -- a signed number that is from 0 to 2 ^ w - 1 is its bits
@@ -31,9 +31,9 @@ low w j v l h e =
     ap mag (signed_low j v (lt_of_lt_of_le u (pow_mono l)))
 
 module _ (s : List ℕ) (p : ℕ) where
-  pub good_numbers : good_numbers_lem (field Big s p 32) (field Big s (p + 32) 64) (field Big s (p + 96) 8) (field Big s (p + 120) 16) (field Big s (p + 136) 8) ≡ in_range (columns_at s p)
+  pub good_numbers_lem : good_numbers (field Big s p 32) (field Big s (p + 32) 64) (field Big s (p + 96) 8) (field Big s (p + 120) 16) (field Big s (p + 136) 8) ≡ in_range (columns_at s p)
   unfolding in_range columns_at
-  good_numbers =
+  good_numbers_lem =
       sym (rw (within_signed star_bits 31 (field Big s p 32) (omega arith) (field_lt Big s p 32), within_signed date_bits 63 (field Big s (p + 32) 64) (omega arith) (field_lt Big s (p + 32) 64), within_signed error_bits 15 (field Big s (p + 120) 16) (omega arith) (field_lt Big s (p + 120) 16)))
 
   -- the numbers of a row that says a record are its bits, none negative

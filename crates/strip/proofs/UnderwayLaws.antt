@@ -19,7 +19,7 @@ use Rattle.record.specs.Record.{Fits, record_bits}
 use Rattle.strip.specs.Bits.{bits_of}
 use Rattle.strip.specs.Strip.{records_in, all_fit, strip_length, strip_bytes}
 use Rattle.strip.proofs.FitLaws.{with_magnitude, low_16}
-use Rattle.strip.proofs.ListLaws.{record_from_lem, next_record, no_record_left, records_named}
+use Rattle.strip.proofs.ListLaws.{record_from, next_record, no_record_left, records_named}
 use Rattle.strip.proofs.MidwayLaws.{fresh, Midway, midway_start, midway_fits, midway_room, midway_step, midway_length, midway_out}
 
 -- the records left are n - i, and their numbers start at `at`
@@ -30,7 +30,7 @@ pub record Underway (ns : List ℕ) (n : ℕ) (out₀ out : List ℕ) (c : State
 
 -- the record of six numbers as the code puts it, the magnitude by its low 16 bits
 abbrev pub record_put : List ℕ → ℕ → Record
-record_put ns at = with_magnitude (record_from_lem ns at) (signed 16 (get_or ns (at + 3) 0 % 2 ^ 16))
+record_put ns at = with_magnitude (record_from ns at) (signed 16 (get_or ns (at + 3) 0 % 2 ^ 16))
 
 module _ (ns : List ℕ) (n : ℕ) (out₀ : List ℕ) where
   pub underway_start : length out₀ ≤ longest → 6 * n ≤ length ns → all_fit (records_in n ns) ≡ true → Underway ns n out₀ out₀ fresh 0 0
@@ -44,13 +44,13 @@ module _ (ns : List ℕ) (n : ℕ) (out₀ : List ℕ) where
   module _ (out : List ℕ) (c : State) (i at : ℕ) (g : Underway ns n out₀ out c i at) where
     module _ (more : i < n) where
       -- the next record, and those behind it
-      next : records_in (n - i) (drop at ns) ≡ record_from_lem ns at ∷ records_in (n - (i + 1)) (drop (at + 6) ns)
+      next : records_in (n - i) (drop at ns) ≡ record_from ns at ∷ records_in (n - (i + 1)) (drop (at + 6) ns)
       next = next_record ns n i at more g.there
 
-      here : Midway (records_in n ns) out₀ out c (record_from_lem ns at ∷ records_in (n - (i + 1)) (drop (at + 6) ns))
+      here : Midway (records_in n ns) out₀ out c (record_from ns at ∷ records_in (n - (i + 1)) (drop (at + 6) ns))
       here = subst (Midway (records_in n ns) out₀ out c) next g.midway
 
-      pub underway_fits : Fits (record_from_lem ns at)
+      pub underway_fits : Fits (record_from ns at)
       underway_fits = midway_fits (records_in n ns) out₀ out c _ _ here
 
       module _ (room : strip_length n ≤ length out₀) where
@@ -64,7 +64,7 @@ module _ (ns : List ℕ) (n : ℕ) (out₀ : List ℕ) where
             get_or ns (at + 3) 0 < 2 ^ 64 → (t : List ℕ) (d : State) →
             t ≡ put_out Big out c record_bits (bits_of (record_put ns at)) → d ≡ put Big c record_bits (bits_of (record_put ns at)) → Underway ns n out₀ t d (i + 1) (at + 6)
         underway_step word t d ht hd =
-            let b : bits_of (record_put ns at) ≡ bits_of (record_from_lem ns at) = ap (λ (z : ℤ). bits_of (with_magnitude (record_from_lem ns at) z)) (low_16 (get_or ns (at + 3) 0) word underway_fits.magnitude) in
+            let b : bits_of (record_put ns at) ≡ bits_of (record_from ns at) = ap (λ (z : ℤ). bits_of (with_magnitude (record_from ns at) z)) (low_16 (get_or ns (at + 3) 0) word underway_fits.magnitude) in
             record {
               there = omega (arith, g.there);
               count = g.count;

@@ -3,7 +3,6 @@ use mathlib.Core.Path.{sym, ap, ◌∙◌}
 use lib.Ieee.{to_bits, binary64}
 use Rattle.floats.specs.Floats.{double_bits}
 use Rattle.floats.proofs.Nans.{differs, same, failed}
-use Rattle.std.proofs.Common.{rules}
 use Rattle.floats.proofs.bits_of_double.Goals as goal
 
 pub float_to_bits-result : goal.float_to_bits-result

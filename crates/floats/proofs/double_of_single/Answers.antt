@@ -4,7 +4,6 @@ use lib.Ieee.{binary32}
 use Rattle.floats.specs.Widening.{widened}
 use Rattle.floats.proofs.Nans.{above, within, failed}
 use Rattle.floats.proofs.WideningLaws.{may_widen}
-use Rattle.std.proofs.Common.{rules}
 use Rattle.floats.proofs.double_of_single.Goals as goal
 
 pub returns-then-pattern-gt2139095040 : goal.returns-then-pattern-gt2139095040

@@ -2,7 +2,6 @@
 use mathlib.Core.Path.{ap₂}
 use lib.Dec.{eqb}
 use Rattle.floats.specs.Floats.{same_double}
-use Rattle.std.proofs.Common.{rules}
 use Rattle.floats.proofs.same_double.Goals as goal
 
 pub returns : goal.returns

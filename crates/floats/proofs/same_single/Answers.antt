@@ -2,7 +2,6 @@
 use mathlib.Core.Path.{ap₂}
 use lib.Dec.{eqb}
 use Rattle.floats.specs.Floats.{same_single}
-use Rattle.std.proofs.Common.{rules}
 use Rattle.floats.proofs.same_single.Goals as goal
 
 pub returns : goal.returns

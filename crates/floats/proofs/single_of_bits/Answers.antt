@@ -2,7 +2,6 @@
 use lib.Ieee.{binary32}
 use Rattle.floats.specs.Floats.{single_of}
 use Rattle.floats.proofs.Nans.{above, within, failed}
-use Rattle.std.proofs.Common.{rules}
 use Rattle.floats.proofs.single_of_bits.Goals as goal
 
 pub float_from_bits-result : goal.float_from_bits-result

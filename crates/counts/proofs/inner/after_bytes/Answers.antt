@@ -7,7 +7,6 @@ use Rattle.counts.specs.declared.Counts.{Counts}
 use Rattle.counts.specs.Counts.{Within, after_eights}
 use Rattle.counts.proofs.CountLaws.{Moved, refill-moved, moved_room}
 use Rattle.counts.proofs.BytesLaws.{passed_le, bytes_held, bytes_beyond}
-use Rattle.std.proofs.Common.{rules}
 use Rattle.counts.proofs.inner.after_bytes.Goals as goal
 use Rattle.counts.proofs.inner.after_bytes.Goals.{After-passed_over-over}
 

@@ -6,7 +6,6 @@ use native.Mathlib.Omega.{arith}
 use Rattle.counts.specs.declared.Counts.{Counts}
 use Rattle.counts.specs.Counts.{after_take}
 use Rattle.counts.proofs.CountLaws.{refill-enough, read_held, read_refilled}
-use Rattle.std.proofs.Common.{rules}
 use Rattle.counts.proofs.inner.after_eight.Goals as goal
 
 pub overflow_sub-result : goal.overflow_sub-result

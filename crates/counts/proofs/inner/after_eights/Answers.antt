@@ -1,11 +1,10 @@
 -- `after_eights` meets its contract: the loop keeps that the reads still to be done give what all of them gave at first. Assumes nothing.
 use mathlib.Core.Path.{◌≡◌, refl, sym, ap, ◌∙◌, subst}
-use Prim.Native.Nat.{ℕ, ◌-◌, ◌*◌, ◌≤◌}
+use Prim.Native.Nat.{ℕ, ◌-◌}
 use native.Mathlib.Omega.{arith}
-use Rattle.counts.specs.Counts.{Within, bits_left, after_read, after_eights}
+use Rattle.counts.specs.Counts.{after_read, after_eights}
 use Rattle.counts.proofs.CountLaws.{Moved, read_moved, moved_room}
 use Rattle.counts.proofs.BytesLaws.{eights_next}
-use Rattle.std.proofs.Common.{rules}
 use Rattle.counts.proofs.inner.after_eights.Goals as goal
 
 pub loop-left-init : goal.loop-left-init

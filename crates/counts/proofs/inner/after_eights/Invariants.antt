@@ -1,10 +1,7 @@
 -- `after_eights` meets its contract: the loop keeps that the reads still to be done give what all of them gave at first. Assumes nothing.
-use mathlib.Core.Path.{◌≡◌, refl, sym, ap, ◌∙◌, subst}
-use Prim.Native.Nat.{ℕ, ◌-◌, ◌*◌, ◌≤◌}
-use native.Mathlib.Omega.{arith}
-use Rattle.counts.specs.Counts.{Within, bits_left, after_read, after_eights}
-use Rattle.counts.proofs.CountLaws.{Moved, read_moved, moved_room}
-use Rattle.counts.proofs.BytesLaws.{eights_next}
+use mathlib.Core.Path.{◌≡◌}
+use Prim.Native.Nat.{◌*◌, ◌≤◌}
+use Rattle.counts.specs.Counts.{Within, bits_left, after_eights}
 use Rattle.counts.proofs.inner.after_eights.Given as goal
 
 abbrev pub invariant-loop-left : goal.invariant-loop-left

@@ -2,7 +2,6 @@
 use mathlib.Core.Path.{ap}
 use Prim.Native.Nat.{ℕ}
 use Rattle.counts.specs.Counts.{after_fetch}
-use Rattle.std.proofs.Common.{rules}
 use Rattle.counts.proofs.inner.after_refill.Goals as goal
 
 pub returns : goal.returns

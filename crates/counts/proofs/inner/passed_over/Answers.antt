@@ -1,7 +1,6 @@
 -- `passed_over` meets its contract: its branch is the definition's. Assumes nothing.
 use borrow.Author.Tests.{eq-eqb, ne_eqb}
 use Rattle.counts.specs.Counts.{passed_over}
-use Rattle.std.proofs.Common.{rules}
 use Rattle.counts.proofs.inner.passed_over.Goals as goal
 
 pub returns-then-partial-eq0 : goal.returns-then-partial-eq0

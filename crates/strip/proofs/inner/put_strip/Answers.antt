@@ -11,7 +11,7 @@ use Rattle.packing.proofs.PutLaws.{put-length}
 use Rattle.writer.specs.declared.Writer.{Writer}
 use Rattle.writer.specs.Writer.{state_in, writer_with, padding}
 use Rattle.record.specs.Record.{Fits, record_bits}
-use Rattle.strip.proofs.ListLaws.{record_from_lem}
+use Rattle.strip.proofs.ListLaws.{record_from}
 use Rattle.strip.proofs.UnderwayLaws.{Underway, underway_start, underway_fits, underway_room, underway_step, underway_length, underway_out}
 use Rattle.std.proofs.Common.{rules}
 use Rattle.strip.proofs.inner.put_strip.Goals as goal
@@ -72,7 +72,7 @@ pub bounds-numbers-at-in-loop-i-5 : goal.bounds-numbers-at-in-loop-i-5
 bounds-numbers-at-in-loop-i-5 c = omega arith
 
 -- the next record fits, and has room
-fit : (c : After-shared_slice_known-in-loop-i-6-1) → Fits (record_from_lem c.args.numbers.now c.loop-i.at)
+fit : (c : After-shared_slice_known-in-loop-i-6-1) → Fits (record_from c.args.numbers.now c.loop-i.at)
 fit c =
     let a = c.args in
     let l = c.loop-i in

@@ -11,7 +11,7 @@ use Rattle.packing.proofs.PutLaws.{put-length}
 use Rattle.writer.specs.declared.Writer.{Writer}
 use Rattle.writer.specs.Writer.{state_in, writer_with, padding}
 use Rattle.record.specs.Record.{Fits, record_bits}
-use Rattle.strip.proofs.ListLaws.{record_from_lem}
+use Rattle.strip.proofs.ListLaws.{record_from}
 use Rattle.strip.proofs.UnderwayLaws.{Underway, underway_start, underway_fits, underway_room, underway_step, underway_length, underway_out}
 use Rattle.strip.proofs.inner.put_strip.Given as goal
 
