@@ -11,7 +11,6 @@ use lib.IntN.{pos}
 use lib.Pow.{pow_pos}
 use Rattle.bits.specs.declared.Order.TheVariants.{Big}
 use Rattle.bits.specs.Field.{join, field}
-use Rattle.bits.specs.Word.{first}
 use Rattle.bits.proofs.JoinLaws.{join-lt, join_assoc}
 use Rattle.bits.proofs.FieldLaws.{field_same, bit_same}
 use Rattle.bits.specs.Signed.{signed, pattern}

@@ -12,7 +12,7 @@ use Rattle.bits.specs.Refusals.{longest, done, bad_row, or_else, first_refusal}
 use Rattle.bits.proofs.StoreLaws.{front_take}
 use Rattle.bits.proofs.TestLaws.{by_test}
 use Rattle.record.specs.declared.Record.{Record}
-use Rattle.record.specs.Record.{Fits, fits}
+use Rattle.record.specs.Record.{Fits}
 use Rattle.record.proofs.FitLaws.{fits-true}
 use Rattle.strip.specs.Strip.{all_fit, strip_length, strip_bytes, count_of, records_of, tail_good}
 use Rattle.strip.proofs.PackedLaws.{records_fit, records_count}

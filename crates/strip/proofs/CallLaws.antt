@@ -1,7 +1,7 @@
 -- Calls one after the other: packing each record and flushing is packing the strip, and reading again and again gives the strip's records.
 use mathlib.Core.Path.{◌≡◌, refl, sym, ap, ap₂, ◌∙◌, subst}
 use mathlib.Core.List.{List, [], ◌∷◌}
-use Prim.Native.Nat.{ℕ, zero, suc, ◌+◌, ◌-◌, ◌*◌, ◌<◌, ◌≤◌}
+use Prim.Native.Nat.{ℕ, zero, suc, ◌+◌, ◌*◌, ◌<◌, ◌≤◌}
 use native.Mathlib.Nat.{zero-add}
 use native.Mathlib.Omega.{arith}
 use lib.ListN.{length}
@@ -22,7 +22,7 @@ use Rattle.writer.specs.declared.Writer.{Writer}
 use Rattle.writer.specs.Writer.{writer_with, padding}
 use Rattle.writer.specs.Answers as W
 use Rattle.record.specs.declared.Record.{Record}
-use Rattle.record.specs.Record.{fits, record_bits}
+use Rattle.record.specs.Record.{record_bits}
 use Rattle.record.proofs.FitLaws.{true-fits}
 use Rattle.strip.specs.declared.RecordRead.{RecordRead}
 use Rattle.strip.specs.Bits.{bits_of, record_at}

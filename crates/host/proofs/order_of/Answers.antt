@@ -1,7 +1,6 @@
 -- `order_of` meets its contract: the test for 0 is the definition's. Assumes nothing.
 use borrow.Author.Tests.{eq-eqb, ne_eqb}
 use Rattle.host.specs.Host.{order_of}
-use Rattle.std.proofs.Common.{rules}
 use Rattle.host.proofs.order_of.Goals as goal
 
 pub returns-then-order-eq0 : goal.returns-then-order-eq0

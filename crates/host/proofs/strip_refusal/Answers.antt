@@ -3,7 +3,6 @@
 use mathlib.Core.Path.{sym}
 use native.Mathlib.Omega.{arith}
 use Rattle.host.proofs.HostLaws.{refused_too_long, refused_too_wide, refused_too_few, not_refused}
-use Rattle.std.proofs.Common.{rules}
 use Rattle.host.proofs.strip_refusal.Goals as goal
 
 pub returns-then-src-gt-LONGEST : goal.returns-then-src-gt-LONGEST

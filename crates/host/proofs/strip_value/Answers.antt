@@ -3,7 +3,6 @@ use mathlib.Core.Path.{sym, ◌∙◌}
 use Rattle.bits.proofs.RefusalLaws.{if_refused, if_done_lem}
 use Rattle.host.specs.Host.{host_value}
 use Rattle.host.proofs.HostLaws.{done-within}
-use Rattle.std.proofs.Common.{rules}
 use Rattle.host.proofs.strip_value.Goals as goal
 
 pub returns-then-strip_refusal-ne-DONE : goal.returns-then-strip_refusal-ne-DONE

@@ -6,7 +6,6 @@ use Rattle.text.proofs.HeaderLaws.{bad_tail_is}
 use Rattle.jobs.specs.Jobs.{verdict_said}
 use Rattle.jobs.proofs.MessageLaws.{too_long_is, ok_is}
 use Rattle.jobs.proofs.CheckLaws.{check_long, vetted, check_short, fault_small}
-use Rattle.std.proofs.Common.{rules}
 use Rattle.jobs.proofs.check_answer.Goals as goal
 
 pub returns-then-input-gt-MOST_TAKEN : goal.returns-then-input-gt-MOST_TAKEN

@@ -2,7 +2,6 @@
 use mathlib.Core.Path.{◌∙◌}
 use Rattle.jobs.proofs.AnswerLaws.{list_long, list_done}
 use Rattle.jobs.proofs.MessageLaws.{too_long_is}
-use Rattle.std.proofs.Common.{rules}
 use Rattle.jobs.proofs.list_answer.Goals as goal
 
 pub returns-then-input-gt-MOST_TAKEN : goal.returns-then-input-gt-MOST_TAKEN

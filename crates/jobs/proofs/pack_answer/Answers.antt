@@ -8,7 +8,6 @@ use native.Mathlib.Omega.{arith}
 use Rattle.jobs.specs.Answers.{answered_of, answered_out}
 use Rattle.jobs.proofs.MessageLaws.{too_long_is, bad_line_is}
 use Rattle.jobs.proofs.PackLaws.{pack_long, pack_said, pack_done, line_few}
-use Rattle.std.proofs.Common.{rules}
 use Rattle.jobs.proofs.pack_answer.Goals as goal
 
 pub returns-then-input-gt-MOST_TAKEN : goal.returns-then-input-gt-MOST_TAKEN

@@ -5,7 +5,6 @@ use native.Mathlib.Omega.{arith}
 use Rattle.text.proofs.HeaderLaws.{bad_tail_is}
 use Rattle.jobs.proofs.MessageLaws.{bad_row_bytes, numbered, too_long_is, bad_row_is}
 use Rattle.jobs.proofs.RowsLaws.{bad_row_small, pack_rows_long, pack_rows_bad, pack_rows_cut, pack_rows_done}
-use Rattle.std.proofs.Common.{rules}
 use Rattle.jobs.proofs.pack_rows_answer.Goals as goal
 
 pub returns-then-input-gt-MOST_TAKEN : goal.returns-then-input-gt-MOST_TAKEN

@@ -4,7 +4,6 @@ use mathlib.Core.Path.{sym, ◌∙◌}
 use Rattle.text.proofs.HeaderLaws.{bad_tail_is}
 use Rattle.jobs.proofs.MessageLaws.{too_long_is}
 use Rattle.jobs.proofs.RowsLaws.{rows_long, rows_bad, rows_done}
-use Rattle.std.proofs.Common.{rules}
 use Rattle.jobs.proofs.rows_answer.Goals as goal
 
 pub returns-then-input-gt-MOST_TAKEN : goal.returns-then-input-gt-MOST_TAKEN

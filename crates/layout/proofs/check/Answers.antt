@@ -2,7 +2,6 @@
 use borrow.Author.Tests.{lt-ltb, le-ltb}
 use Rattle.bits.specs.Refusals.{longest, or_else, first_refusal}
 use Rattle.layout.specs.Answers.{check_of}
-use Rattle.std.proofs.Common.{rules}
 use Rattle.layout.proofs.check.Goals as goal
 
 pub returns-then-plan-gt-LONGEST : goal.returns-then-plan-gt-LONGEST

@@ -5,7 +5,6 @@ use lib.ListN.{length}
 use Rattle.bits.specs.Refusals.{done}
 use Rattle.layout.specs.Answers.{compile_refusal, compile_of, compile_out}
 use Rattle.layout.proofs.AnswerLaws.{compile-done}
-use Rattle.std.proofs.Common.{rules}
 use Rattle.layout.proofs.compile.Goals as goal
 use Rattle.layout.proofs.compile.Goals.{After-put_plan-arg-1, After-slice_known-2-1}
 

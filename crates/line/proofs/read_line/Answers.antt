@@ -1,10 +1,9 @@
 -- `read_line` meets its contract: its tests are those of `line_refusal`, since from place 0 on `line_at` says whether the text begins with
 -- a line, and the place behind that whether it is all of the text. Assumes nothing.
-use Rattle.std.proofs.Common.{sym, ◌∙◌, rules, le-ltb, lt-ltb}
+use Rattle.std.proofs.Common.{sym, ◌∙◌, le-ltb, lt-ltb}
 use Rattle.bits.specs.Refusals.{or_else, first_refusal}
 use Rattle.line.specs.Reading.{line_refusal, read_line}
 use Rattle.line.proofs.AnswerLaws.{all_read, more_left}
-use Rattle.std.proofs.Common.{rules}
 use Rattle.line.proofs.read_line.Goals as goal
 
 pub returns-then-src-gt-LONGEST : goal.returns-then-src-gt-LONGEST

@@ -12,7 +12,6 @@ use Rattle.reader.proofs.CursorLaws.{stop-inside}
 use Rattle.layout.specs.Layout.{bits_of}
 use Rattle.plan.specs.Run.{values_of, fields_of, run_refusal}
 use Rattle.plan.proofs.RunLaws.{Granted, granted, run_refused, run-done}
-use Rattle.std.proofs.Common.{rules}
 use Rattle.plan.proofs.run.Goals as goal
 use Rattle.plan.proofs.run.Goals.{After-gone_to, After-gone_to-2, After-run_plan-arg-1, After-slice_known-3-1, Else-refusal-ne-DONE, Then-quick-le64, Then-refusal-ne-DONE}
 

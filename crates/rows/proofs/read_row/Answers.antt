@@ -3,7 +3,6 @@ use mathlib.Core.Path.{sym, ◌∙◌}
 use Rattle.bits.proofs.RefusalLaws.{if_refused, if_done_lem}
 use Rattle.rows.specs.Answers.{read_of}
 use Rattle.rows.proofs.AnswerLaws.{read_passed}
-use Rattle.std.proofs.Common.{rules}
 use Rattle.rows.proofs.read_row.Goals as goal
 
 pub returns-then-refusal-ne-DONE : goal.returns-then-refusal-ne-DONE

@@ -1,12 +1,10 @@
 -- `rows_to_strip` meets its contract: a refusal or a cut row changes nothing, and rows that are not refused say records and have room (`pack_passed`). Assumes nothing.
 use mathlib.Core.Path.{sym, ap, ◌∙◌}
-use Prim.Native.Nat.{◌-◌}
 use native.Mathlib.Omega.{arith}
 use lib.ListN.{length}
 use lib.Seq.{sets}
 use Rattle.rows.specs.declared.inner.Found.{Found}
 use Rattle.rows.proofs.AnswerLaws.{pack_passed, pack_refused, pack_done, whole_strip, whole_length, no_strip, rows_whole_lem, rows_cut}
-use Rattle.std.proofs.Common.{rules}
 use Rattle.rows.proofs.rows_to_strip.Goals as goal
 
 pub returns-then-found-ne-DONE : goal.returns-then-found-ne-DONE

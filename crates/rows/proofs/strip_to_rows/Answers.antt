@@ -1,6 +1,6 @@
 -- `strip_to_rows` meets its contract: a refusal or a bad tail changes nothing, and what is not refused has room (`rows_passed`). Assumes nothing.
 use mathlib.Core.Path.{◌≡◌, sym, ap, ◌∙◌}
-use Prim.Native.Nat.{◌-◌, ◌*◌, ◌≤◌}
+use Prim.Native.Nat.{◌*◌, ◌≤◌}
 use native.Mathlib.Omega.{arith}
 use mathlib.Core.Bool.{true, false}
 use lib.ListN.{length}
@@ -9,7 +9,6 @@ use Rattle.bits.specs.Refusals.{longest}
 use Rattle.strip.specs.Strip.{count_of, tail_good}
 use Rattle.rows.specs.Row.{row_length}
 use Rattle.rows.proofs.AnswerLaws.{rows_passed, rows_refused, rows_done, good_rows, good_length, no_rows}
-use Rattle.std.proofs.Common.{rules}
 use Rattle.rows.proofs.strip_to_rows.Goals as goal
 use Rattle.rows.proofs.strip_to_rows.Goals.{After-put_rows-arg-1, Else-refusal-ne-DONE, Then-tail_good}
 

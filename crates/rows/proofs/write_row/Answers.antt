@@ -3,7 +3,6 @@ use mathlib.Core.Path.{sym, ◌∙◌}
 use Rattle.bits.proofs.RefusalLaws.{if_refused, if_done_lem}
 use Rattle.rows.specs.Answers.{row_out}
 use Rattle.rows.proofs.AnswerLaws.{row_passed}
-use Rattle.std.proofs.Common.{rules}
 use Rattle.rows.proofs.write_row.Goals as goal
 
 pub returns-then-refusal-ne-DONE : goal.returns-then-refusal-ne-DONE

@@ -12,7 +12,6 @@ use Rattle.record.specs.Record.{record_bits}
 use Rattle.strip.specs.Bits.{bits_of}
 use Rattle.strip.specs.Answers.{pack_of, pack_out}
 use Rattle.strip.proofs.AnswerLaws.{pack_passed}
-use Rattle.std.proofs.Common.{rules}
 use Rattle.strip.proofs.pack_record.Goals as goal
 
 pub returns-then-refusal-ne-DONE : goal.returns-then-refusal-ne-DONE

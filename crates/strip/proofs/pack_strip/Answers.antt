@@ -5,7 +5,6 @@ use Rattle.bits.proofs.RefusalLaws.{if_refused, if_done_lem, answer_refused, ans
 use Rattle.strip.specs.Strip.{strip_length}
 use Rattle.strip.specs.Answers.{strip_of, packed_out}
 use Rattle.strip.proofs.AnswerLaws.{packed, strip_passed}
-use Rattle.std.proofs.Common.{rules}
 use Rattle.strip.proofs.pack_strip.Goals as goal
 
 pub returns-then-refusal-ne-DONE : goal.returns-then-refusal-ne-DONE

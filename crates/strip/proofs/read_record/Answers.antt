@@ -9,7 +9,6 @@ use Rattle.reader.specs.Cursor.{place, Fits}
 use Rattle.record.specs.Record.{record_bits}
 use Rattle.strip.specs.Answers.{read_of}
 use Rattle.strip.proofs.AnswerLaws.{read_passed}
-use Rattle.std.proofs.Common.{rules}
 use Rattle.strip.proofs.read_record.Goals as goal
 use Rattle.strip.proofs.read_record.Goals.{After-place_of-place, After-record_at, Else-refusal-ne-DONE}
 

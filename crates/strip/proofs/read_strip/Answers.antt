@@ -10,7 +10,6 @@ use Rattle.bits.proofs.RefusalLaws.{if_refused, if_done_lem}
 use Rattle.strip.specs.Strip.{count_of}
 use Rattle.strip.specs.Answers.{list_of, list_out}
 use Rattle.strip.proofs.AnswerLaws.{list_passed}
-use Rattle.std.proofs.Common.{rules}
 use Rattle.strip.proofs.read_strip.Goals as goal
 use Rattle.strip.proofs.read_strip.Goals.{After-put_numbers-arg-1, After-slice_known-2-1, Else-refusal-ne-DONE}
 

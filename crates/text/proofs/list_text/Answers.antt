@@ -5,7 +5,6 @@ use Rattle.bits.proofs.RefusalLaws.{if_refused, if_done_lem, answer_refused, ans
 use Rattle.text.specs.Text.{text_of}
 use Rattle.text.specs.Answers.{list_of, list_out}
 use Rattle.text.proofs.AnswerLaws.{listed, list_passed}
-use Rattle.std.proofs.Common.{rules}
 use Rattle.text.proofs.list_text.Goals as goal
 
 pub returns-then-refusal-ne-DONE : goal.returns-then-refusal-ne-DONE

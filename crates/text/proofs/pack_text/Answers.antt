@@ -3,7 +3,6 @@ use mathlib.Core.Path.{sym, ap, ◌∙◌}
 use lib.ListN.{length}
 use Rattle.text.specs.declared.inner.Found.{Found}
 use Rattle.text.proofs.AnswerLaws.{pack_passed, pack_refused, pack_done}
-use Rattle.std.proofs.Common.{rules}
 use Rattle.text.proofs.pack_text.Goals as goal
 
 pub returns-then-found-ne-DONE : goal.returns-then-found-ne-DONE

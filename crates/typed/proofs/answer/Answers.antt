@@ -1,7 +1,6 @@
 -- `answer` meets its contract: the test for refusal 0 is the definition's. Assumes nothing.
 use borrow.Author.Tests.{eq-eqb, ne_eqb}
 use Rattle.typed.specs.Answers.{answered}
-use Rattle.std.proofs.Common.{rules}
 use Rattle.typed.proofs.answer.Goals as goal
 
 pub returns-then-refusal-eq-DONE : goal.returns-then-refusal-eq-DONE

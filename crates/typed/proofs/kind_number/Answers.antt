@@ -1,6 +1,5 @@
 -- `kind_number` meets its contract: the value's case is its kind. Assumes nothing.
 use Rattle.typed.specs.Typed.{kind_of, number_of}
-use Rattle.std.proofs.Common.{rules}
 use Rattle.typed.proofs.kind_number.Goals as goal
 
 pub returns-in-Unsigned : goal.returns-in-Unsigned

@@ -3,7 +3,6 @@ use mir.Syntax.{w64}
 use mir.ValLaws.{to_z-of_z}
 use Rattle.typed.specs.Typed.{width_of, meaning}
 use Rattle.typed.specs.Answers.{read_of}
-use Rattle.std.proofs.Common.{rules}
 use Rattle.typed.proofs.read_typed.Goals as goal
 
 pub returns-in-Unsigned : goal.returns-in-Unsigned

@@ -1,7 +1,6 @@
 -- `same_typed` meets its contract: it compares the kinds, and then the bits. Assumes nothing.
 use borrow.Author.Tests.{eq-eqb, ne_eqb}
 use Rattle.typed.specs.Typed.{same_typed}
-use Rattle.std.proofs.Common.{rules}
 use Rattle.typed.proofs.same_typed.Goals as goal
 
 pub returns-then-kind_number : goal.returns-then-kind_number

@@ -2,7 +2,6 @@
 use mir.Syntax.{w64}
 use mir.ValLaws.{to_z-of_z}
 use Rattle.typed.specs.Typed.{typed_of}
-use Rattle.std.proofs.Common.{rules}
 use Rattle.typed.proofs.typed_of_bits.Goals as goal
 
 pub returns-in-Unsigned : goal.returns-in-Unsigned

@@ -2,7 +2,6 @@
 use mathlib.Core.Path.{sym, ◌∙◌}
 use borrow.Author.Tests.{lt-ltb, le-ltb}
 use Rattle.vetting.specs.Verdicts.{verdict_of}
-use Rattle.std.proofs.Common.{rules}
 use Rattle.vetting.proofs.vet_strip.Goals as goal
 
 pub returns-then-strip-gt-LONGEST : goal.returns-then-strip-gt-LONGEST

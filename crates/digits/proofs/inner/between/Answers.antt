@@ -1,7 +1,6 @@
 -- `between` meets its contract: the first test decides the first half of the conjunction. Assumes nothing.
 use mathlib.Core.Path.{sym}
 use borrow.Author.Tests.{le-leb, lt-leb}
-use Rattle.std.proofs.Common.{rules}
 use Rattle.digits.proofs.inner.between.Goals as goal
 
 pub returns-then-low-n : goal.returns-then-low-n

@@ -3,7 +3,6 @@
 use mathlib.Core.Path.{sym, ◌∙◌}
 use native.Mathlib.Omega.{arith}
 use Rattle.digits.proofs.PlaceLaws.{starts-within, next_low, next_within, stands_good, stands_open, stands_failed}
-use Rattle.std.proofs.Common.{rules}
 use Rattle.digits.proofs.inner.close.Goals as goal
 
 pub starts_at-requires : goal.starts_at-requires

@@ -2,7 +2,6 @@
 -- Assumes nothing.
 use Rattle.digits.specs.Reading.{decimals_at}
 use Rattle.digits.proofs.PlaceLaws.{next_low, count_is}
-use Rattle.std.proofs.Common.{rules}
 use Rattle.digits.proofs.inner.decimals_at.Goals as goal
 
 pub overflow_sub-last : goal.overflow_sub-last

@@ -2,7 +2,6 @@
 use mathlib.Core.Path.{sym}
 use native.Mathlib.Omega.{arith}
 use Rattle.digits.proofs.PlaceLaws.{next_within, whole-zero, whole_other, whole_none}
-use Rattle.std.proofs.Common.{rules}
 use Rattle.digits.proofs.inner.is_whole.Goals as goal
 
 pub bounds-src-at : goal.bounds-src-at

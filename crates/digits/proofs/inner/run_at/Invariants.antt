@@ -1,10 +1,8 @@
 -- `run_at` meets its contract: what is left of the run behind the value so far gives the whole run (`Left`), also after one digit more.
 -- The measure is what is left of the text. Assumes nothing.
-use mathlib.Core.Path.{refl, sym, ◌∙◌}
 use Prim.Native.Nat.{◌-◌}
-use native.Mathlib.Omega.{arith}
 use lib.ListN.{length}
-use Rattle.digits.proofs.PlaceLaws.{Left, left_next, left_stop, left_end}
+use Rattle.digits.proofs.PlaceLaws.{Left}
 use Rattle.digits.proofs.inner.run_at.Given as goal
 
 abbrev pub invariant-loop-i : goal.invariant-loop-i

@@ -1,7 +1,6 @@
 -- `starts_at` meets its contract: the text from a place on begins with the byte there, and past the end with none. Assumes nothing.
 use mathlib.Core.Path.{sym}
 use Rattle.digits.proofs.PlaceLaws.{starts_in, starts_out}
-use Rattle.std.proofs.Common.{rules}
 use Rattle.digits.proofs.inner.starts_at.Goals as goal
 
 pub returns-then-at-src : goal.returns-then-at-src

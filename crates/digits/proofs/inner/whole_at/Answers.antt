@@ -1,6 +1,5 @@
 -- `whole_at` meets its contract: it closes the run at the place by the test of a whole part. Assumes nothing.
 use Rattle.digits.specs.Reading.{whole_at}
-use Rattle.std.proofs.Common.{rules}
 use Rattle.digits.proofs.inner.whole_at.Goals as goal
 
 pub returns : goal.returns

@@ -2,7 +2,6 @@
 use mathlib.Core.Path.{◌∙◌}
 use Rattle.jobs.proofs.AnswerLaws.{out_long, out_short, has_room}
 use Rattle.jobs.proofs.MessageLaws.{copied}
-use Rattle.std.proofs.Common.{rules}
 use Rattle.jobs.proofs.inner.say.Goals as goal
 
 pub returns-then-out-gt-LONGEST : goal.returns-then-out-gt-LONGEST

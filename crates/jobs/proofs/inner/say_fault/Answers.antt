@@ -9,7 +9,6 @@ use native.Mathlib.Omega.{arith}
 use Rattle.print.specs.Print.{whole_of}
 use Rattle.print.proofs.DigitLaws.{places_few}
 use Rattle.jobs.proofs.MessageLaws.{record_bytes, rule_bytes, fault_is, numbered, numbered_put, behind_room, copied_behind}
-use Rattle.std.proofs.Common.{rules}
 use Rattle.jobs.proofs.inner.say_fault.Goals as goal
 use Rattle.jobs.proofs.inner.say_fault.Goals.{After-copy-arg-4-1, After-say_numbered-arg-1, After-slice_known-2-1, After-words-5-1, After-words-6-1}
 

@@ -7,7 +7,6 @@ use native.Mathlib.Omega.{arith}
 use Rattle.digits.specs.Digits.{newline}
 use Rattle.print.proofs.DigitLaws.{places_few}
 use Rattle.jobs.proofs.MessageLaws.{numbered, numbered_put}
-use Rattle.std.proofs.Common.{rules}
 use Rattle.jobs.proofs.inner.say_numbered.Goals as goal
 
 pub put_whole-end-requires : goal.put_whole-end-requires

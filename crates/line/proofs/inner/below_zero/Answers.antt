@@ -1,9 +1,8 @@
 -- `below_zero` meets its contract: its tests are those of `complement`, and the distance wraps at most once. Assumes nothing.
-use Rattle.std.proofs.Common.{◌≡◌, ◌+◌, ◌-◌, ◌%◌, ◌^◌, arith, rules, le-leb}
+use Rattle.std.proofs.Common.{◌≡◌, ◌+◌, ◌-◌, ◌%◌, ◌^◌, arith, le-leb}
 use borrow.Author.Tests.{lt-leb}
 use Rattle.record.specs.Record.{depth}
 use Rattle.line.specs.Reading.{complement}
-use Rattle.std.proofs.Common.{rules}
 use Rattle.line.proofs.inner.below_zero.Goals as goal
 
 pub returns-then-n-le-DEPTH : goal.returns-then-n-le-DEPTH

@@ -1,9 +1,8 @@
 -- `date_at` meets its contract: the decimals are read where the whole part ended (`date_stands`), and both are bounded. Assumes nothing.
-use Rattle.std.proofs.Common.{drop, arith, rules}
+use Rattle.std.proofs.Common.{drop, arith}
 use Rattle.digits.specs.Digits.{comma, point}
 use Rattle.digits.proofs.PartLaws.{whole_small, decimals_few}
 use Rattle.line.proofs.PlaceLaws.{date_stands}
-use Rattle.std.proofs.Common.{rules}
 use Rattle.line.proofs.inner.date_at.Goals as goal
 
 pub units-requires : goal.units-requires

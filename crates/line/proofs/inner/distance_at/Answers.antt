@@ -1,10 +1,9 @@
 -- `distance_at` meets its contract: behind a minus the number is read one byte on and taken below zero (`minus_stands`); with none it lies
 -- as far above zero (`plus_stands`). Assumes nothing.
-use Rattle.std.proofs.Common.{drop, sym, ◌∙◌, arith, rules}
+use Rattle.std.proofs.Common.{drop, sym, ◌∙◌, arith}
 use Rattle.digits.specs.Digits.{minus}
 use Rattle.digits.proofs.PlaceLaws.{starts-within}
 use Rattle.line.proofs.PlaceLaws.{thousandths_small, minus_stands, plus_stands}
-use Rattle.std.proofs.Common.{rules}
 use Rattle.line.proofs.inner.distance_at.Goals as goal
 
 pub thousandths_at-number-requires : goal.thousandths_at-number-requires

@@ -1,9 +1,8 @@
 -- `line_at` meets its contract: each number is read where the one before it ended, so the six are those of the text from the place on
 -- (`six_stand`); whether they fit decides the answer. Assumes nothing.
-use Rattle.std.proofs.Common.{sym, ◌∙◌, rules}
+use Rattle.std.proofs.Common.{sym, ◌∙◌}
 use Rattle.line.proofs.PlaceLaws.{SixStand, six_stand}
 use Rattle.line.proofs.AnswerLaws.{stands_line, stands_none}
-use Rattle.std.proofs.Common.{rules}
 use Rattle.line.proofs.inner.line_at.Goals as goal
 use Rattle.line.proofs.inner.line_at.Goals.{After-no_record, After-record_of}
 

@@ -1,7 +1,5 @@
 -- `magnitude_at` meets its contract: a magnitude of 64 bits is found again from its distance (`distance_stands`). Assumes nothing.
-use Rattle.std.proofs.Common.{rules}
 use Rattle.line.proofs.PlaceLaws.{distance_stands}
-use Rattle.std.proofs.Common.{rules}
 use Rattle.line.proofs.inner.magnitude_at.Goals as goal
 
 pub returns : goal.returns

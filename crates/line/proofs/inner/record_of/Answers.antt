@@ -1,9 +1,8 @@
 -- `record_of` meets its contract: numbers that fit their fields fit the record's types, so each cast keeps them. Assumes nothing.
-use Rattle.std.proofs.Common.{◌≡◌, sym, subst, arith, w16, w64, SFits, to_z, of_z, rules}
+use Rattle.std.proofs.Common.{◌≡◌, sym, subst, arith, w16, w64, SFits, to_z, of_z}
 use mir.ValLaws.{to_z-of_z}
 use Rattle.record.specs.Record.{Fits, record_of}
 use Rattle.record.proofs.FitLaws.{fits-true}
-use Rattle.std.proofs.Common.{rules}
 use Rattle.line.proofs.inner.record_of.Goals as goal
 use Rattle.line.proofs.inner.record_of.Goals.{After-signed_of_bits, Start}
 

@@ -1,7 +1,6 @@
 -- `ten_to` meets its contract: after i turns p is 10 ^ i, at most 10 ^ 7. The measure is what is left of n. Assumes nothing.
-use Rattle.std.proofs.Common.{◌≡◌, ℕ, ◌-◌, ◌*◌, ◌^◌, ◌≤◌, sym, refl, ap, ◌∙◌, zero-lt-suc, pow-suc, add-one, arith}
+use Rattle.std.proofs.Common.{◌≡◌, ℕ, ◌*◌, ◌^◌, ◌≤◌, sym, refl, ap, ◌∙◌, zero-lt-suc, pow-suc, add-one, arith}
 use native.Mathlib.Nat.{pow-le-pow_right, one-le-pow}
-use Rattle.std.proofs.Common.{rules}
 use Rattle.line.proofs.inner.ten_to.Goals as goal
 use Rattle.line.proofs.inner.ten_to.Goals.{After-loop-i, In-loop-i}
 

@@ -1,6 +1,5 @@
 -- `ten_to` meets its contract: after i turns p is 10 ^ i, at most 10 ^ 7. The measure is what is left of n. Assumes nothing.
-use Rattle.std.proofs.Common.{◌≡◌, ℕ, ◌-◌, ◌*◌, ◌^◌, ◌≤◌, sym, refl, ap, ◌∙◌, zero-lt-suc, pow-suc, add-one, arith}
-use native.Mathlib.Nat.{pow-le-pow_right, one-le-pow}
+use Rattle.std.proofs.Common.{◌≡◌, ◌-◌, ◌^◌, ◌≤◌}
 use Rattle.line.proofs.inner.ten_to.Given as goal
 
 abbrev pub invariant-loop-i : goal.invariant-loop-i

@@ -1,10 +1,9 @@
 -- `thousandths_at` meets its contract: the decimals are read where the whole part ended (`thousandths_stands`), and both are bounded.
 -- Assumes nothing.
-use Rattle.std.proofs.Common.{drop, arith, rules}
+use Rattle.std.proofs.Common.{drop, arith}
 use Rattle.digits.specs.Digits.{comma, point}
 use Rattle.digits.proofs.PartLaws.{whole_small, decimals_few}
 use Rattle.line.proofs.PlaceLaws.{thousandths_stands}
-use Rattle.std.proofs.Common.{rules}
 use Rattle.line.proofs.inner.thousandths_at.Goals as goal
 
 pub overflow_mul-result : goal.overflow_mul-result

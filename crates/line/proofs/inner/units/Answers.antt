@@ -1,9 +1,8 @@
 -- `units` meets its contract: up to five decimals are units themselves (`units_five`), to more half a unit is added before they are cut
 -- (`units_half`). Assumes nothing.
-use Rattle.std.proofs.Common.{ℕ, ◌+◌, ◌*◌, ◌/◌, sym, ap, ◌∙◌, div-le_self, arith, rules}
+use Rattle.std.proofs.Common.{ℕ, ◌+◌, ◌*◌, ◌/◌, sym, ap, ◌∙◌, div-le_self, arith}
 use Rattle.line.specs.Date.{day}
 use Rattle.line.proofs.DateLaws.{units_five, units_half}
-use Rattle.std.proofs.Common.{rules}
 use Rattle.line.proofs.inner.units.Goals as goal
 
 pub returns-then-count-le5 : goal.returns-then-count-le5

@@ -4,7 +4,6 @@ use native.Mathlib.Omega.{arith}
 use mir.Syntax.{w16}
 use mir.ValLaws.{to_z-of_z}
 use Rattle.listing.specs.Listing.{magnitude_size}
-use Rattle.std.proofs.Common.{rules}
 use Rattle.listing.proofs.inner.line_size.Goals as goal
 
 pub returns : goal.returns

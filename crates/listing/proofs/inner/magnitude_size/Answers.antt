@@ -11,7 +11,6 @@ use mir.ValLaws.{to_z-of_z}
 use Rattle.print.specs.Print.{places}
 use Rattle.listing.specs.Listing.{is_negative}
 use Rattle.listing.proofs.PieceLaws.{one_or_none}
-use Rattle.std.proofs.Common.{rules}
 use Rattle.listing.proofs.inner.magnitude_size.Goals as goal
 use Rattle.listing.proofs.inner.magnitude_size.Goals.{After-places}
 

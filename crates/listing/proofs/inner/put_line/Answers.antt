@@ -11,7 +11,6 @@ use Rattle.line.specs.Date.{day}
 use Rattle.print.specs.Print.{places}
 use Rattle.listing.specs.Listing.{magnitude_size}
 use Rattle.listing.proofs.PieceLaws.{magnitude_of, line_put}
-use Rattle.std.proofs.Common.{rules}
 use Rattle.listing.proofs.inner.put_line.Goals as goal
 use Rattle.listing.proofs.inner.put_line.Goals.{After-put_fixed-arg-2-1, After-put_magnitude-arg-1, After-slice_known-7-1, After-struct_known-5-1}
 

@@ -11,7 +11,6 @@ use Rattle.digits.specs.Digits.{minus}
 use Rattle.print.specs.Print.{places}
 use Rattle.listing.specs.Listing.{is_negative, magnitude_size}
 use Rattle.listing.proofs.PieceLaws.{minus_store, plus_store}
-use Rattle.std.proofs.Common.{rules}
 use Rattle.listing.proofs.inner.put_magnitude.Goals as goal
 use Rattle.listing.proofs.inner.put_magnitude.Goals.{After-put_fixed-arg-1, After-put_fixed-arg-2-1, After-slice_known-2-1, After-slice_known-then-m-lt0-1}
 

@@ -8,7 +8,6 @@ use mir.Syntax.{w16}
 use mir.Val.{to_z, of_z}
 use mir.ValLaws.{to_z-of_z}
 use Rattle.sign.proofs.FlipLaws.{complement, complement-fits, complement_read, negative, nonnegative}
-use Rattle.std.proofs.Common.{rules}
 use Rattle.listing.proofs.inner.size_of.Goals as goal
 use Rattle.listing.proofs.inner.size_of.Goals.{Else-m-lt0, Then-m-lt0}
 

@@ -2,7 +2,6 @@
 use mathlib.Core.Path.{◌∙◌}
 use Prim.Native.Nat.{◌-◌}
 use Rattle.lookahead.proofs.StateLaws.{consumed}
-use Rattle.std.proofs.Common.{rules}
 use Rattle.lookahead.proofs.inner.consume.Goals as goal
 
 pub returns : goal.returns

@@ -3,7 +3,6 @@ use Prim.Native.Nat.{◌+◌, ◌<◌, ◌≤◌}
 use native.Mathlib.Omega.{arith}
 use borrow.Author.Tests.{le-leb, lt-leb}
 use Rattle.lookahead.specs.State.{inside}
-use Rattle.std.proofs.Common.{rules}
 use Rattle.lookahead.proofs.inner.inside.Goals as goal
 
 pub returns-then-len-gt-LONGEST : goal.returns-then-len-gt-LONGEST

@@ -6,7 +6,6 @@ use borrow.Author.Tests.{le-leb, lt-leb}
 use Rattle.counts.specs.Counts.{Within}
 use Rattle.lookahead.specs.State.{belongs, counts_of}
 use Rattle.lookahead.proofs.StateLaws.{belongs_register}
-use Rattle.std.proofs.Common.{rules}
 use Rattle.lookahead.proofs.inner.is_of.Goals as goal
 
 pub returns-then-src-c : goal.returns-then-src-c

@@ -1,7 +1,6 @@
 -- `peek` meets its contract: the first bits of the register are the first of the field that it holds (`peeked`). Assumes nothing.
 use mathlib.Core.Path.{◌∙◌}
 use Rattle.lookahead.proofs.StateLaws.{peeked}
-use Rattle.std.proofs.Common.{rules}
 use Rattle.lookahead.proofs.inner.peek.Goals as goal
 
 pub returns : goal.returns

@@ -5,7 +5,6 @@ use lib.Dec.{ltb}
 use Rattle.counts.proofs.CountLaws.{if_within, short_enough}
 use Rattle.lookahead.specs.State.{counts_of}
 use Rattle.lookahead.proofs.StateLaws.{is_ready, is_took, short_read, inside_is}
-use Rattle.std.proofs.Common.{rules}
 use Rattle.lookahead.proofs.inner.read_inside.Goals as goal
 
 pub take-requires : goal.take-requires

@@ -6,7 +6,6 @@ use Rattle.counts.specs.Counts.{refill_if}
 use Rattle.counts.proofs.CountLaws.{if_within, short_enough}
 use Rattle.lookahead.specs.State.{counts_of, state_of}
 use Rattle.lookahead.proofs.StateLaws.{is_ready, is_took, short_read}
-use Rattle.std.proofs.Common.{rules}
 use Rattle.lookahead.proofs.inner.read_short.Goals as goal
 use Rattle.lookahead.proofs.inner.read_short.Goals.{After-refill_if, After-take}
 

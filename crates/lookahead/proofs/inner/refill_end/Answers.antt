@@ -4,7 +4,6 @@ use lib.ListN.{length}
 use Rattle.counts.specs.Counts.{Within}
 use Rattle.counts.proofs.CountLaws.{refill-within}
 use Rattle.lookahead.specs.State.{state_of}
-use Rattle.std.proofs.Common.{rules}
 use Rattle.lookahead.proofs.inner.refill_end.Goals as goal
 
 pub register_end-requires : goal.register_end-requires

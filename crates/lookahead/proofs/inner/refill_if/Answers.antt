@@ -1,6 +1,5 @@
 -- `refill_if` meets its contract: without a refill the state stays, which is the one with its counts (`belongs_is`). Assumes nothing.
 use Rattle.lookahead.proofs.StateLaws.{belongs_is}
-use Rattle.std.proofs.Common.{rules}
 use Rattle.lookahead.proofs.inner.refill_if.Goals as goal
 
 pub returns-then-b : goal.returns-then-b

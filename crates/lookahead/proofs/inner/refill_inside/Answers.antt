@@ -8,7 +8,6 @@ use Rattle.counts.specs.declared.Counts.{Counts}
 use Rattle.counts.specs.Counts.{Within}
 use Rattle.lookahead.specs.State.{register_of, state_of}
 use Rattle.lookahead.proofs.StateLaws.{full_register, inside_counts}
-use Rattle.std.proofs.Common.{rules}
 use Rattle.lookahead.proofs.inner.refill_inside.Goals as goal
 
 pub returns : goal.returns

@@ -2,7 +2,6 @@
 use borrow.Author.Tests.{lt-ltb, le-ltb}
 use Rattle.bits.specs.Refusals.{or_else, first_refusal}
 use Rattle.lookahead.specs.State.{state_refusal}
-use Rattle.std.proofs.Common.{rules}
 use Rattle.lookahead.proofs.inner.refusal.Goals as goal
 
 pub returns-then-src-gt-LONGEST : goal.returns-then-src-gt-LONGEST

@@ -3,7 +3,6 @@ use mathlib.Core.Path.{ap, ◌∙◌}
 use Prim.Native.Nat.{◌-◌}
 use Rattle.bits.specs.Word.{skipped}
 use Rattle.lookahead.proofs.StateLaws.{far_register}
-use Rattle.std.proofs.Common.{rules}
 use Rattle.lookahead.proofs.inner.register_behind.Goals as goal
 
 pub returns : goal.returns

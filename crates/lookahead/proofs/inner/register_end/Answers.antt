@@ -1,6 +1,6 @@
 -- `register_end` meets its contract: all of a slice is the slice (`take-length`), and the bits before the offset are held. Assumes nothing.
 use mathlib.Core.Path.{◌≡◌, sym, ap, ◌∙◌, subst}
-use Prim.Native.Nat.{ℕ, ◌-◌, ◌≤◌, ◌<◌, ◌^◌}
+use Prim.Native.Nat.{ℕ, ◌≤◌, ◌<◌, ◌^◌}
 use mathlib.Core.List.{List}
 use lib.ListN.{length}
 use lib.Seq.{take-length}
@@ -9,7 +9,6 @@ use Rattle.bits.proofs.FieldLaws.{field_lt}
 use Rattle.bits.specs.Word.{held}
 use Rattle.counts.specs.Counts.{place}
 use Rattle.lookahead.specs.State.{register_of}
-use Rattle.std.proofs.Common.{rules}
 use Rattle.lookahead.proofs.inner.register_end.Goals as goal
 use Rattle.lookahead.proofs.inner.register_end.Goals.{After-bits_before-value, After-hold_bits}
 

@@ -1,5 +1,4 @@
 -- `state_at` meets its contract: it puts the counts and their register together. Assumes nothing.
-use Rattle.std.proofs.Common.{rules}
 use Rattle.lookahead.proofs.inner.state_at.Goals as goal
 
 pub returns : goal.returns

@@ -1,6 +1,5 @@
 -- `top_up` meets its contract: it refills exactly if the lookahead is too short, and eight bytes are there on both sides. Assumes nothing.
 use mathlib.Core.Path.{sym, ap, ◌∙◌}
-use Prim.Native.Nat.{◌-◌}
 use mathlib.Core.Bool.{Bool}
 use native.Mathlib.Omega.{arith}
 use lib.ListN.{length}
@@ -8,7 +7,6 @@ use borrow.Author.Tests.{lt-ltb, le-ltb}
 use Rattle.counts.specs.Counts.{refill_if}
 use Rattle.lookahead.specs.State.{counts_of, state_of}
 use Rattle.lookahead.proofs.StateLaws.{inside_is, belongs_is}
-use Rattle.std.proofs.Common.{rules}
 use Rattle.lookahead.proofs.inner.top_up.Goals as goal
 
 pub refill_inside-requires : goal.refill_inside-requires

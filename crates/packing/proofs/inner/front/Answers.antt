@@ -9,7 +9,6 @@ use Rattle.words.specs.Eight.{swapped}
 use Rattle.packing.specs.Packing.{bytes_of, gathered, full, over}
 use Rattle.packing.proofs.EightBytesLaws.{first-swapped}
 use Rattle.packing.proofs.FrontLaws.{front_word, front_lt, front_bytes, front_little, front_big}
-use Rattle.std.proofs.Common.{rules}
 use Rattle.packing.proofs.inner.front.Goals as goal
 use Rattle.packing.proofs.inner.front.Goals.{After-struct_known-in-Big-3-1, After-struct_known-in-Little-1, After-swap8}
 

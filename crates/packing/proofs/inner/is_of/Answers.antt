@@ -6,7 +6,6 @@ use lib.Dec.{ltb}
 use Rattle.bits.proofs.WordLaws.{one_shl}
 use Rattle.packing.specs.Packing.{bits_written}
 use Rattle.packing.proofs.BelongsLaws.{many_held, past_the_end, belongs_if_small}
-use Rattle.std.proofs.Common.{rules}
 use Rattle.packing.proofs.inner.is_of.Goals as goal
 
 pub returns-then-c-gt7 : goal.returns-then-c-gt7

@@ -5,7 +5,6 @@ use native.Mathlib.Nat.{mod-eq_of_lt}
 use native.Mathlib.Omega.{arith}
 use lib.Pow.{pow_pos}
 use Rattle.bits.proofs.WordLaws.{one_shl, mask_is}
-use Rattle.std.proofs.Common.{rules}
 use Rattle.packing.proofs.inner.low_bits.Goals as goal
 
 pub returns-then-n-eq64 : goal.returns-then-n-eq64

@@ -7,7 +7,6 @@ use lib.Seq.{sets}
 use Rattle.packing.specs.Packing.{full, over, put, put_out}
 use Rattle.packing.proofs.PutLaws.{put-held, put-held_out}
 use Rattle.packing.proofs.FrontLaws.{front_over}
-use Rattle.std.proofs.Common.{rules}
 use Rattle.packing.proofs.inner.put_bits.Goals as goal
 
 pub returns-then-bits-lt8 : goal.returns-then-bits-lt8

@@ -5,7 +5,6 @@ use Prim.Native.Nat.{ℕ, ◌^◌, ◌<◌}
 use native.Mathlib.Omega.{arith}
 use lib.ListN.{get_or}
 use Rattle.packing.proofs.PutBytesLaws.{bytes_aligned, bytes_aligned_out}
-use Rattle.std.proofs.Common.{rules}
 use Rattle.packing.proofs.inner.put_bytes.Goals as goal
 
 pub returns : goal.returns

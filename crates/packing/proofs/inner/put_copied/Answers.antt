@@ -1,13 +1,12 @@
 -- `put_copied` meets its contract: what is still to be stored from here is what was to be stored at first. Assumes nothing.
 use mathlib.Core.Path.{◌≡◌, refl, sym, ap, ap₂, ◌∙◌}
-use Prim.Native.Nat.{ℕ, suc, ◌+◌, ◌-◌, ◌≤◌}
+use Prim.Native.Nat.{ℕ, suc, ◌+◌}
 use native.Mathlib.Nat.{add-zero}
 use native.Mathlib.Numerals.{add-one}
 use native.Mathlib.Omega.{arith}
 use mathlib.Core.List.{◌∷◌}
-use lib.ListN.{get_or, length, drop, set, length-set, drop_of_length-le}
+use lib.ListN.{get_or, drop, set, length-set, drop_of_length-le}
 use lib.Seq.{sets, drop-cons}
-use Rattle.std.proofs.Common.{rules}
 use Rattle.packing.proofs.inner.put_copied.Goals as goal
 
 pub loop-i-init : goal.loop-i-init

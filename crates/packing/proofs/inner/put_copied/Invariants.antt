@@ -1,12 +1,8 @@
 -- `put_copied` meets its contract: what is still to be stored from here is what was to be stored at first. Assumes nothing.
-use mathlib.Core.Path.{◌≡◌, refl, sym, ap, ap₂, ◌∙◌}
-use Prim.Native.Nat.{ℕ, suc, ◌+◌, ◌-◌, ◌≤◌}
-use native.Mathlib.Nat.{add-zero}
-use native.Mathlib.Numerals.{add-one}
-use native.Mathlib.Omega.{arith}
-use mathlib.Core.List.{◌∷◌}
-use lib.ListN.{get_or, length, drop, set, length-set, drop_of_length-le}
-use lib.Seq.{sets, drop-cons}
+use mathlib.Core.Path.{◌≡◌}
+use Prim.Native.Nat.{◌+◌, ◌-◌, ◌≤◌}
+use lib.ListN.{length, drop}
+use lib.Seq.{sets}
 use Rattle.packing.proofs.inner.put_copied.Given as goal
 
 abbrev pub invariant-loop-i : goal.invariant-loop-i

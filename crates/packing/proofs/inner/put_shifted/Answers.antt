@@ -9,7 +9,6 @@ use Rattle.packing.specs.declared.State.{State}
 use Rattle.packing.specs.Packing.{bits_written, Belongs}
 use Rattle.packing.proofs.StretchLaws.{Stretch, stretch_none, stretch_byte, stretch_word, stretch_length, stretch_next, stretch_join}
 use Rattle.packing.proofs.PutBytesLaws.{stretch_all}
-use Rattle.std.proofs.Common.{rules}
 use Rattle.packing.proofs.inner.put_shifted.Invariants.{state_of}
 use Rattle.packing.proofs.inner.put_shifted.Goals as goal
 use Rattle.packing.proofs.inner.put_shifted.Goals.{After-loop-i, After-loop-i-2, After-put_bits-arg-1, After-put_word-arg-1, After-slice_known-in-loop-i-1, After-slice_known-in-loop-i-2-1}

@@ -1,14 +1,9 @@
 -- `put_shifted` meets its contract: both loops put a stretch of the bytes, by eight and by one, and the two stretches are all bytes
 -- (`stretch_join`, `stretch_all`). Assumes nothing.
-use mathlib.Core.Path.{◌≡◌, sym, subst}
-use Prim.Native.Nat.{ℕ, ◌+◌, ◌-◌, ◌*◌, ◌^◌, ◌<◌, ◌≤◌}
-use native.Mathlib.Omega.{arith}
-use mathlib.Core.List.{List}
+use Prim.Native.Nat.{ℕ, ◌-◌, ◌≤◌}
 use lib.ListN.{length}
 use Rattle.packing.specs.declared.State.{State}
-use Rattle.packing.specs.Packing.{bits_written, Belongs}
-use Rattle.packing.proofs.StretchLaws.{Stretch, stretch_none, stretch_byte, stretch_word, stretch_length, stretch_next, stretch_join}
-use Rattle.packing.proofs.PutBytesLaws.{stretch_all}
+use Rattle.packing.proofs.StretchLaws.{Stretch}
 use Rattle.packing.proofs.inner.put_shifted.Given as goal
 
 abbrev pub state_of : ℕ → ℕ → ℕ → State

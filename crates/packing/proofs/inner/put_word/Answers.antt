@@ -8,7 +8,6 @@ use Rattle.bits.specs.Field.{join}
 use Rattle.bits.specs.Word.{first}
 use Rattle.packing.specs.Packing.{bytes_of}
 use Rattle.packing.proofs.PutWordLaws.{front_lt, word_bytes, word_over}
-use Rattle.std.proofs.Common.{rules}
 use Rattle.packing.proofs.inner.put_word.Goals as goal
 
 pub join_bits-word-requires : goal.join_bits-word-requires

@@ -2,7 +2,6 @@
 use borrow.Author.Tests.{lt-ltb, le-ltb}
 use Rattle.bits.specs.Refusals.{or_else, first_refusal}
 use Rattle.packing.specs.Packing.{state_refusal}
-use Rattle.std.proofs.Common.{rules}
 use Rattle.packing.proofs.inner.refusal.Goals as goal
 
 pub returns-then-len-gt-LONGEST : goal.returns-then-len-gt-LONGEST

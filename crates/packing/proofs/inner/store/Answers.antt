@@ -1,14 +1,13 @@
 -- `store` meets its contract: what is still to be stored from here is what was to be stored at first (`store_step`). Assumes nothing.
 use mathlib.Core.Path.{◌≡◌, refl, ap, ◌∙◌}
-use Prim.Native.Nat.{ℕ, ◌+◌, ◌-◌, ◌*◌, ◌/◌, ◌%◌, ◌^◌, ◌<◌, ◌≤◌}
+use Prim.Native.Nat.{ℕ, ◌+◌, ◌-◌, ◌*◌, ◌/◌, ◌%◌, ◌<◌}
 use native.Mathlib.Omega.{arith}
-use lib.ListN.{length, set, length-set}
+use lib.ListN.{set, length-set}
 use lib.Seq.{sets}
 use Rattle.bits.specs.declared.Order.TheVariants.{Little}
 use Rattle.bits.specs.Word.{first, skipped}
 use Rattle.packing.specs.Packing.{bytes_of}
 use Rattle.packing.proofs.HeldLaws.{store_step}
-use Rattle.std.proofs.Common.{rules}
 use Rattle.packing.proofs.inner.store.Goals as goal
 
 pub overflow_add-end : goal.overflow_add-end

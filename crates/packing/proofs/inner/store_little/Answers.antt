@@ -3,7 +3,6 @@ use native.Mathlib.Numerals.{unary_clauses}
 use native.Mathlib.Omega.{arith}
 use lib.ListN.{length-set}
 use Rattle.packing.proofs.EightBytesLaws.{bytes_little}
-use Rattle.std.proofs.Common.{rules}
 use Rattle.packing.proofs.inner.store_little.Goals as goal
 
 pub bounds-out-at-2 : goal.bounds-out-at-2

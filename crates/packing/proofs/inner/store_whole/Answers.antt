@@ -5,7 +5,6 @@ use lib.Seq.{sets}
 use Rattle.bits.specs.declared.Order.TheVariants.{Little}
 use Rattle.packing.specs.Packing.{bytes_of}
 use Rattle.packing.proofs.EightBytesLaws.{bytes_swapped}
-use Rattle.std.proofs.Common.{rules}
 use Rattle.packing.proofs.inner.store_whole.Goals as goal
 
 pub returns-in-Little : goal.returns-in-Little

@@ -5,7 +5,6 @@ use native.Mathlib.Omega.{arith}
 use lib.Pow.{pow_pos, shr-shr}
 use Rattle.bits.specs.Word.{rest}
 use Rattle.bits.proofs.WordLaws.{one_shl, mask_is}
-use Rattle.std.proofs.Common.{rules}
 use Rattle.packing.proofs.inner.tail.Goals as goal
 
 pub overflow_sub-result-in-Big : goal.overflow_sub-result-in-Big

@@ -1,5 +1,5 @@
 -- `decode` meets its contract: at each step, what the others will write gives what all of them write. Assumes nothing.
-use Prim.Native.Nat.{◌+◌, ◌-◌, ◌≤◌}
+use Prim.Native.Nat.{◌+◌}
 use mathlib.Core.Path.{◌≡◌, refl}
 use mathlib.Core.List.{◌∷◌}
 use native.Mathlib.Nat.{zero-add}
@@ -8,7 +8,6 @@ use lib.ListN.{length, drop, get_or}
 use Rattle.layout.proofs.StepLaws.{plan_whole}
 use Rattle.plan.proofs.RunLaws.{plan_few}
 use Rattle.plan.proofs.Decoding.{Left, width, room, next, at_index, at_end}
-use Rattle.std.proofs.Common.{rules}
 use Rattle.plan.proofs.inner.decode.Goals as goal
 use Rattle.plan.proofs.inner.decode.Goals.{After-next_open-open, After-put_item-arg-1, After-shared_slice_known-in-loop-i-1}
 

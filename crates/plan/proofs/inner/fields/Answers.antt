@@ -1,5 +1,5 @@
 -- `fields` meets its contract: at each field, what the others will give gives what all of them give. Assumes nothing.
-use Prim.Native.Nat.{◌+◌, ◌-◌, ◌*◌, ◌%◌, ◌<◌, ◌≤◌}
+use Prim.Native.Nat.{◌+◌, ◌*◌, ◌<◌, ◌≤◌}
 use mathlib.Core.Path.{◌≡◌, refl}
 use mathlib.Core.Bool.{true}
 use mathlib.Core.List.{[], ◌∷◌}
@@ -7,10 +7,9 @@ use native.Mathlib.Omega.{arith}
 use lib.ListN.{length, drop, get_or}
 use Rattle.bits.proofs.FieldLaws.{field_lt}
 use borrow.Author.Tests.{leb-true}
-use Rattle.layout.specs.Layout.{item, items_of, good_items, bits_of}
+use Rattle.layout.specs.Layout.{item, items_of, good_items}
 use Rattle.layout.proofs.LayoutLaws.{good_of, is_layout_of, length_items, bits_most, items_at, items_end}
 use Rattle.plan.proofs.Reading.{Left, start, inside, room, next, finish}
-use Rattle.std.proofs.Common.{rules}
 use Rattle.plan.proofs.inner.fields.Goals as goal
 use Rattle.plan.proofs.inner.fields.Goals.{After-field_in, After-loop-i, After-pattern, After-shared_slice_known-in-loop-i-2-1, After-shared_slice_known-in-loop-i-2-1-unread}
 

@@ -1,15 +1,10 @@
 -- `fields` meets its contract: at each field, what the others will give gives what all of them give. Assumes nothing.
-use Prim.Native.Nat.{◌+◌, ◌-◌, ◌*◌, ◌%◌, ◌<◌, ◌≤◌}
-use mathlib.Core.Path.{◌≡◌, refl}
+use Prim.Native.Nat.{◌+◌, ◌-◌, ◌*◌, ◌%◌, ◌≤◌}
+use mathlib.Core.Path.{◌≡◌}
 use mathlib.Core.Bool.{true}
-use mathlib.Core.List.{[], ◌∷◌}
-use native.Mathlib.Omega.{arith}
-use lib.ListN.{length, drop, get_or}
-use Rattle.bits.proofs.FieldLaws.{field_lt}
-use borrow.Author.Tests.{leb-true}
-use Rattle.layout.specs.Layout.{item, items_of, good_items, bits_of}
-use Rattle.layout.proofs.LayoutLaws.{good_of, is_layout_of, length_items, bits_most, items_at, items_end}
-use Rattle.plan.proofs.Reading.{Left, start, inside, room, next, finish}
+use lib.ListN.{length, drop}
+use Rattle.layout.specs.Layout.{items_of, good_items, bits_of}
+use Rattle.plan.proofs.Reading.{Left}
 use Rattle.plan.proofs.inner.fields.Given as goal
 
 abbrev pub invariant-loop-i : goal.invariant-loop-i

@@ -1,5 +1,4 @@
 -- `next_open` meets its contract: `ends` decides. Assumes nothing.
-use Rattle.std.proofs.Common.{rules}
 use Rattle.plan.proofs.inner.next_open.Goals as goal
 
 pub returns-then-ends : goal.returns-then-ends

@@ -1,7 +1,6 @@
 -- `pattern` meets its contract: the kind decides whether the sign is widened. Assumes nothing.
 use borrow.Author.Tests.{eq-eqb, ne_eqb}
 use Rattle.plan.specs.Run.{pattern_of}
-use Rattle.std.proofs.Common.{rules}
 use Rattle.plan.proofs.inner.pattern.Goals as goal
 
 pub returns-then-kind-eq1 : goal.returns-then-kind-eq1

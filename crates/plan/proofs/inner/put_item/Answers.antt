@@ -6,7 +6,6 @@ use native.Mathlib.Omega.{arith}
 use lib.ListN.{length-set}
 use Rattle.layout.specs.Plan.{ends}
 use Rattle.layout.proofs.DecodeLaws.{ends_of}
-use Rattle.std.proofs.Common.{rules}
 use Rattle.plan.proofs.inner.put_item.Goals as goal
 use Rattle.plan.proofs.inner.put_item.Goals.{Then-ends}
 

@@ -8,15 +8,12 @@ use native.Mathlib.Omega.{arith}
 use lib.ListN.{length, drop, get_or}
 use lib.Seq.{drop-length}
 use Rattle.bits.proofs.FieldLaws.{field_lt}
-use Rattle.layout.specs.Plan.{count, ends, decode}
-use Rattle.layout.specs.Check.{at_field, is_plan}
+use Rattle.layout.specs.Plan.{ends, decode}
 use Rattle.layout.proofs.CheckLaws.{at_end}
 use Rattle.layout.proofs.DecodeLaws.{ends_of}
 use Rattle.layout.specs.Take.{Ready}
 use Rattle.layout.proofs.TakeLaws.{ready_plain, ready_late, ready_next, ready_field}
-use Rattle.plan.specs.Run.{fields_of}
-use Rattle.plan.proofs.Reading.{Left, start, next, finish}
-use Rattle.std.proofs.Common.{rules}
+use Rattle.plan.proofs.Reading.{start, next, finish}
 use Rattle.plan.proofs.inner.read_narrow.Goals as goal
 use Rattle.plan.proofs.inner.read_narrow.Goals.{then-plan-i-eq0+then-wanted, else-plan-i-eq0, After-pattern, After-row_known-1, After-row_known-then-ends-1, After-shared_slice_known-in-loop-i-2-1-unread, After-whole_field, Else-j-eq64}
 

@@ -1,22 +1,12 @@
 -- `read_narrow` meets its contract: at each field, what the check of the others will give is what it gives of all, and what they will be
 -- gives what all of them are. Assumes nothing.
-use Prim.Native.Nat.{◌+◌, ◌-◌, ◌*◌, ◌<◌, ◌≤◌}
-use mathlib.Core.Path.{◌≡◌, refl, sym, ◌∙◌}
-use mathlib.Core.Bool.{true}
-use mathlib.Core.List.{[]}
-use mathlib.Core.Logic.{⊎_elim}
-use native.Mathlib.Omega.{arith}
-use lib.ListN.{length, drop, get_or}
-use lib.Seq.{drop-length}
-use Rattle.bits.proofs.FieldLaws.{field_lt}
-use Rattle.layout.specs.Plan.{count, ends, decode}
+use Prim.Native.Nat.{◌+◌, ◌-◌, ◌*◌, ◌≤◌}
+use mathlib.Core.Path.{◌≡◌}
+use lib.ListN.{length, drop}
+use Rattle.layout.specs.Plan.{decode}
 use Rattle.layout.specs.Check.{at_field, is_plan}
-use Rattle.layout.proofs.CheckLaws.{at_end}
-use Rattle.layout.proofs.DecodeLaws.{ends_of}
-use Rattle.layout.specs.Take.{Ready}
-use Rattle.layout.proofs.TakeLaws.{ready_plain, ready_late, ready_next, ready_field}
 use Rattle.plan.specs.Run.{fields_of}
-use Rattle.plan.proofs.Reading.{Left, start, next, finish}
+use Rattle.plan.proofs.Reading.{Left}
 use Rattle.plan.proofs.inner.read_narrow.Given as goal
 
 abbrev pub invariant-loop-i : goal.invariant-loop-i

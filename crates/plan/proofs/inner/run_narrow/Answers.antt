@@ -3,7 +3,6 @@ use mathlib.Core.Path.{refl, sym, ◌∙◌}
 use native.Mathlib.Omega.{arith}
 use Rattle.plan.specs.Run.{values_of, fields_of}
 use Rattle.plan.proofs.ValueLaws.{front_put, length_values}
-use Rattle.std.proofs.Common.{rules}
 use Rattle.plan.proofs.inner.run_narrow.Goals as goal
 
 pub returns-then-read-results : goal.returns-then-read-results

@@ -10,7 +10,6 @@ use Rattle.layout.proofs.Theorems.{plan_layout, bytes_items, bytes_layout}
 use Rattle.plan.specs.Run.{fields_of}
 use Rattle.plan.proofs.RunLaws.{plan_few}
 use Rattle.bits.proofs.StoreLaws.{front_take}
-use Rattle.std.proofs.Common.{rules}
 use Rattle.plan.proofs.inner.run_plan.Goals as goal
 use Rattle.plan.proofs.inner.run_plan.Goals.{After-fields-arg-1, After-slice_known-2-1, After-space-3-1}
 

@@ -11,7 +11,6 @@ use Rattle.layout.specs.Layout.{bits_of}
 use Rattle.layout.specs.Check.{is_plan}
 use Rattle.plan.specs.Run.{fields_of, run_refusal}
 use Rattle.plan.proofs.RunLaws.{not_refused}
-use Rattle.std.proofs.Common.{rules}
 use Rattle.plan.proofs.inner.run_quick.Goals as goal
 use Rattle.plan.proofs.inner.run_quick.Goals.{After-place_of-place, After-run_narrow-arg-1, After-run_narrow-arg-in-Big-1, After-slice_known-in-Big-1, After-slice_known-in-Little-1, After-stop, Else-refusal-ne-DONE}
 

@@ -12,7 +12,6 @@ use Rattle.layout.specs.declared.inner.size.Size.{Size}
 use Rattle.layout.specs.Layout.{bits_of}
 use Rattle.plan.specs.Run.{fields_of, run_refusal}
 use Rattle.plan.proofs.RunLaws.{bits_decide}
-use Rattle.std.proofs.Common.{rules}
 use Rattle.plan.proofs.inner.run_refusal.Goals as goal
 use Rattle.plan.proofs.inner.run_refusal.Goals.{Else-bits_left-size, Else-is_plan, Else-room-size, Then-bits_left-size, Then-room-size}
 

@@ -1,13 +1,12 @@
 -- `places` meets its contract: `top` is 10 ^ k, and the number takes at least k digits, one more while it reaches `top`; once it is below,
 -- k are enough. The measure is what is left of ten digits. Assumes nothing.
-use mathlib.Core.Path.{◌≡◌, refl, sym, ap, ◌∙◌}
-use Prim.Native.Nat.{ℕ, ◌+◌, ◌*◌, ◌-◌, ◌^◌, ◌≤◌, ◌<◌}
+use mathlib.Core.Path.{refl, sym, ap, ◌∙◌}
+use Prim.Native.Nat.{ℕ, ◌+◌, ◌*◌, ◌^◌, ◌≤◌, ◌<◌}
 use native.Mathlib.Nat.{pow-suc}
 use native.Mathlib.Numerals.{add-one}
 use native.Mathlib.Omega.{arith}
 use Rattle.print.specs.Print.{places}
 use Rattle.print.proofs.DigitLaws.{places_some, places_few, places_are, places-more}
-use Rattle.std.proofs.Common.{rules}
 use Rattle.print.proofs.inner.places.Goals as goal
 use Rattle.print.proofs.inner.places.Goals.{In-loop-top}
 

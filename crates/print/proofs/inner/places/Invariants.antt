@@ -1,12 +1,8 @@
 -- `places` meets its contract: `top` is 10 ^ k, and the number takes at least k digits, one more while it reaches `top`; once it is below,
 -- k are enough. The measure is what is left of ten digits. Assumes nothing.
-use mathlib.Core.Path.{◌≡◌, refl, sym, ap, ◌∙◌}
-use Prim.Native.Nat.{ℕ, ◌+◌, ◌*◌, ◌-◌, ◌^◌, ◌≤◌, ◌<◌}
-use native.Mathlib.Nat.{pow-suc}
-use native.Mathlib.Numerals.{add-one}
-use native.Mathlib.Omega.{arith}
+use mathlib.Core.Path.{◌≡◌}
+use Prim.Native.Nat.{◌-◌, ◌^◌, ◌≤◌}
 use Rattle.print.specs.Print.{places}
-use Rattle.print.proofs.DigitLaws.{places_some, places_few, places_are, places-more}
 use Rattle.print.proofs.inner.places.Given as goal
 
 abbrev pub invariant-loop-top : goal.invariant-loop-top

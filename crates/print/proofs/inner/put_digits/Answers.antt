@@ -1,14 +1,13 @@
 -- `put_digits` meets its contract: putting the i digits of what is left gives, from the output so far, what all k give from the first one.
 -- The measure is how many are left. Assumes nothing.
 use mathlib.Core.Path.{◌≡◌, refl, sym, ap, ◌∙◌}
-use Prim.Native.Nat.{ℕ, suc, ◌+◌, ◌-◌, ◌%◌, ◌≤◌}
-use lib.ListN.{length, length-set}
+use Prim.Native.Nat.{ℕ, suc, ◌+◌, ◌-◌, ◌%◌}
+use lib.ListN.{length-set}
 use lib.Seq.{sets}
 use native.Mathlib.Omega.{arith}
 use Rattle.digits.specs.Digits.{zero_digit}
 use Rattle.print.specs.Print.{digits_of}
 use Rattle.print.proofs.StoreLaws.{digits_store}
-use Rattle.std.proofs.Common.{rules}
 use Rattle.print.proofs.inner.put_digits.Goals as goal
 
 pub loop-i-init : goal.loop-i-init

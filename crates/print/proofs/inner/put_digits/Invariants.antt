@@ -1,13 +1,10 @@
 -- `put_digits` meets its contract: putting the i digits of what is left gives, from the output so far, what all k give from the first one.
 -- The measure is how many are left. Assumes nothing.
-use mathlib.Core.Path.{◌≡◌, refl, sym, ap, ◌∙◌}
-use Prim.Native.Nat.{ℕ, suc, ◌+◌, ◌-◌, ◌%◌, ◌≤◌}
-use lib.ListN.{length, length-set}
+use mathlib.Core.Path.{◌≡◌}
+use Prim.Native.Nat.{◌≤◌}
+use lib.ListN.{length}
 use lib.Seq.{sets}
-use native.Mathlib.Omega.{arith}
-use Rattle.digits.specs.Digits.{zero_digit}
 use Rattle.print.specs.Print.{digits_of}
-use Rattle.print.proofs.StoreLaws.{digits_store}
 use Rattle.print.proofs.inner.put_digits.Given as goal
 
 abbrev pub invariant-loop-i : goal.invariant-loop-i

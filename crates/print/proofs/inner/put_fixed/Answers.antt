@@ -2,7 +2,6 @@
 -- Assumes nothing.
 use native.Mathlib.Omega.{arith}
 use Rattle.print.proofs.StoreLaws.{fixed_store}
-use Rattle.std.proofs.Common.{rules}
 use Rattle.print.proofs.inner.put_fixed.Goals as goal
 
 pub returns : goal.returns

@@ -1,7 +1,6 @@
 -- `put_part` meets its contract: a byte behind the digits that were put is one store more (`part_store`). Assumes nothing.
 use mathlib.Core.Path.{refl}
 use Rattle.print.proofs.StoreLaws.{part_store}
-use Rattle.std.proofs.Common.{rules}
 use Rattle.print.proofs.inner.put_part.Goals as goal
 
 pub returns : goal.returns

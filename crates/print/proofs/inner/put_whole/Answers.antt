@@ -1,5 +1,4 @@
 -- `put_whole` meets its contract: it puts as many digits as the number takes. Assumes nothing.
-use Rattle.std.proofs.Common.{rules}
 use Rattle.print.proofs.inner.put_whole.Goals as goal
 
 pub returns : goal.returns

@@ -4,7 +4,6 @@ use Rattle.bits.proofs.RefusalLaws.{answer_refused, answer_done}
 use Rattle.reader.proofs.CursorLaws.{refusal_own}
 use Rattle.reader.specs.Answers.{tested_of, tested}
 use Rattle.reader.proofs.AnswerLaws.{aligned}
-use Rattle.std.proofs.Common.{rules}
 use Rattle.reader.proofs.Cursor.byte_aligned.Goals as goal
 
 pub returns-then-refusal-ne-DONE : goal.returns-then-refusal-ne-DONE

@@ -10,7 +10,6 @@ use Rattle.reader.specs.Cursor.{with_state, cursor_at}
 use Rattle.reader.proofs.CursorLaws.{own_state, ahead-held}
 use Rattle.reader.specs.Answers.{consume_of, moved}
 use Rattle.reader.proofs.AnswerLaws.{manual_granted}
-use Rattle.std.proofs.Common.{rules}
 use Rattle.reader.proofs.Cursor.consume.Goals as goal
 
 pub returns-then-refusal-ne-DONE : goal.returns-then-refusal-ne-DONE

@@ -5,7 +5,6 @@ use lib.Dec.{eqb}
 use Rattle.bits.proofs.RefusalLaws.{answer_refused, answer_done}
 use Rattle.reader.proofs.CursorLaws.{refusal_own}
 use Rattle.reader.specs.Answers.{tested_of, tested}
-use Rattle.std.proofs.Common.{rules}
 use Rattle.reader.proofs.Cursor.is_empty.Goals as goal
 
 pub returns-then-refusal-ne-DONE : goal.returns-then-refusal-ne-DONE

@@ -3,7 +3,6 @@ use mathlib.Core.Path.{sym, ◌∙◌}
 use Rattle.bits.proofs.RefusalLaws.{answer_refused, answer_done}
 use Rattle.reader.proofs.CursorLaws.{refusal_own}
 use Rattle.reader.specs.Answers.{ahead_of, ahead}
-use Rattle.std.proofs.Common.{rules}
 use Rattle.reader.proofs.Cursor.lookahead_bits.Goals as goal
 
 pub returns-then-refusal-ne-DONE : goal.returns-then-refusal-ne-DONE

@@ -1,7 +1,6 @@
 -- `lower_end` meets its contract: an end that is not refused replaces the cursor's. Assumes nothing.
 use Rattle.bits.proofs.RefusalLaws.{answer_refused, answer_done}
 use Rattle.reader.specs.Answers.{lower_of, moved}
-use Rattle.std.proofs.Common.{rules}
 use Rattle.reader.proofs.Cursor.lower_end.Goals as goal
 
 pub returns-then-refusal-ne-DONE : goal.returns-then-refusal-ne-DONE

@@ -3,7 +3,6 @@ use mathlib.Core.Path.{◌∙◌, ap}
 use native.Mathlib.Omega.{arith}
 use borrow.Author.Tests.{lt-ltb, le-ltb}
 use Rattle.reader.specs.Answers.{new_of, moved}
-use Rattle.std.proofs.Common.{rules}
 use Rattle.reader.proofs.Cursor.new.Goals as goal
 
 pub returns-then-src-gt-LONGEST : goal.returns-then-src-gt-LONGEST

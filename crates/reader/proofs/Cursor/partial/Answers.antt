@@ -13,7 +13,6 @@ use Rattle.lookahead.specs.State.{counts_of, Belongs}
 use Rattle.reader.proofs.CursorLaws.{own_state}
 use Rattle.reader.specs.Answers.{partial_of}
 use Rattle.reader.proofs.AnswerLaws.{remainder_granted}
-use Rattle.std.proofs.Common.{rules}
 use Rattle.reader.proofs.Cursor.partial.Goals as goal
 
 pub returns-then-refusal-ne-DONE : goal.returns-then-refusal-ne-DONE

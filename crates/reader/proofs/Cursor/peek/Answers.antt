@@ -10,7 +10,6 @@ use Rattle.lookahead.specs.State.{counts_of, Belongs}
 use Rattle.reader.proofs.CursorLaws.{own_state, ahead-held}
 use Rattle.reader.specs.Answers.{peek_of, peeked}
 use Rattle.reader.proofs.AnswerLaws.{manual_granted}
-use Rattle.std.proofs.Common.{rules}
 use Rattle.reader.proofs.Cursor.peek.Goals as goal
 
 pub returns-then-refusal-ne-DONE : goal.returns-then-refusal-ne-DONE

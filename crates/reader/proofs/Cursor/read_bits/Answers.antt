@@ -1,5 +1,4 @@
 -- `read_bits` meets its contract: whichever the order is, it is handed on twice. Assumes nothing.
-use Rattle.std.proofs.Common.{rules}
 use Rattle.reader.proofs.Cursor.read_bits.Goals as goal
 
 pub returns-in-Little : goal.returns-in-Little

@@ -4,7 +4,6 @@ use mathlib.Core.Path.{sym, ◌∙◌}
 use Rattle.bits.proofs.RefusalLaws.{if_refused, if_done_lem, answer_refused, answer_done}
 use Rattle.reader.specs.Answers.{bytes_of, bytes_out, moved}
 use Rattle.reader.proofs.AnswerLaws.{bytes_granted}
-use Rattle.std.proofs.Common.{rules}
 use Rattle.reader.proofs.Cursor.read_bytes.Goals as goal
 
 pub returns-then-refusal-ne-DONE : goal.returns-then-refusal-ne-DONE

@@ -3,7 +3,6 @@ use mathlib.Core.Path.{ap, ◌∙◌}
 use Rattle.floats.specs.Floats.{single_of}
 use Rattle.reader.specs.declared.ReadU64.{ReadU64}
 use Rattle.reader.proofs.AnswerLaws.{answered-lt}
-use Rattle.std.proofs.Common.{rules}
 use Rattle.reader.proofs.Cursor.read_f32.Goals as goal
 
 pub overflow_cast-read : goal.overflow_cast-read

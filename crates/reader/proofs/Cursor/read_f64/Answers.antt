@@ -2,7 +2,6 @@
 use mathlib.Core.Path.{ap, ◌∙◌}
 use Rattle.floats.specs.Floats.{double_of}
 use Rattle.reader.specs.declared.ReadU64.{ReadU64}
-use Rattle.std.proofs.Common.{rules}
 use Rattle.reader.proofs.Cursor.read_f64.Goals as goal
 
 pub returns : goal.returns

@@ -2,7 +2,6 @@
 use native.Mathlib.Omega.{arith}
 use mir.Syntax.{w32}
 use Rattle.reader.proofs.AnswerLaws.{answered-lt, signed_cast}
-use Rattle.std.proofs.Common.{rules}
 use Rattle.reader.proofs.Cursor.read_i32.Goals as goal
 
 pub extend-number-requires : goal.extend-number-requires

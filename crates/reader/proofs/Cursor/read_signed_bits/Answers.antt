@@ -5,7 +5,6 @@ use mir.ValLaws.{to_z-of_z}
 use Rattle.bits.specs.Signed.{signed}
 use Rattle.reader.specs.declared.ReadU64.{ReadU64}
 use Rattle.reader.proofs.AnswerLaws.{read_granted, answered_refusal, answered-lt, refused_signed}
-use Rattle.std.proofs.Common.{rules}
 use Rattle.reader.proofs.Cursor.read_signed_bits.Goals as goal
 
 pub returns-then-read-ne-DONE : goal.returns-then-read-ne-DONE

@@ -2,7 +2,6 @@
 use mathlib.Core.Path.{ap}
 use Rattle.reader.specs.Answers.{as_u16}
 use Rattle.reader.proofs.AnswerLaws.{answered-lt}
-use Rattle.std.proofs.Common.{rules}
 use Rattle.reader.proofs.Cursor.read_u16.Goals as goal
 
 pub overflow_cast-result : goal.overflow_cast-result

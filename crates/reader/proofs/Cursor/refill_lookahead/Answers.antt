@@ -8,7 +8,6 @@ use Rattle.lookahead.specs.State.{counts_of, state_of, Belongs}
 use Rattle.reader.specs.Cursor.{with_state, cursor_at}
 use Rattle.reader.proofs.CursorLaws.{own_state, refusal_own}
 use Rattle.reader.specs.Answers.{refill_of, moved}
-use Rattle.std.proofs.Common.{rules}
 use Rattle.reader.proofs.Cursor.refill_lookahead.Goals as goal
 
 pub returns-then-refusal-ne-DONE : goal.returns-then-refusal-ne-DONE

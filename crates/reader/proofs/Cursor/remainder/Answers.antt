@@ -9,7 +9,6 @@ use Rattle.bits.proofs.RefusalLaws.{if_refused, if_done_lem}
 use Rattle.reader.specs.Cursor.{Own}
 use Rattle.reader.specs.Answers.{start_of, remainder_of}
 use Rattle.reader.proofs.AnswerLaws.{remainder_granted, part_slice}
-use Rattle.std.proofs.Common.{rules}
 use Rattle.reader.proofs.Cursor.remainder.Goals as goal
 use Rattle.reader.proofs.Cursor.remainder.Goals.{After-result-1, After-struct_known-2-1, After-struct_known-3-1}
 

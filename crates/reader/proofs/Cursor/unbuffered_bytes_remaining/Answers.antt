@@ -1,7 +1,6 @@
 -- `unbuffered_bytes_remaining` meets its contract: a cursor that is not refused tells what is not yet fetched before its end. Assumes nothing.
 use Rattle.bits.proofs.RefusalLaws.{answer_refused, answer_done}
 use Rattle.reader.specs.Answers.{counted_of, counted}
-use Rattle.std.proofs.Common.{rules}
 use Rattle.reader.proofs.Cursor.unbuffered_bytes_remaining.Goals as goal
 
 pub returns-then-refusal-ne-DONE : goal.returns-then-refusal-ne-DONE

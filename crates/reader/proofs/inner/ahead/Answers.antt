@@ -1,7 +1,6 @@
 -- `ahead` meets its contract: it answers the lesser of the lookahead and the bits left. Assumes nothing.
 use native.Mathlib.Omega.{arith}
 use Rattle.reader.specs.Cursor.{ahead_in}
-use Rattle.std.proofs.Common.{rules}
 use Rattle.reader.proofs.inner.ahead.Goals as goal
 
 pub bits_left-left-requires : goal.bits_left-left-requires

@@ -2,7 +2,6 @@
 use mathlib.Core.Path.{ap, subst, sym}
 use Prim.Native.Nat.{ℕ, ◌-◌, ◌≤◌}
 use Rattle.reader.specs.Cursor.{bits_left}
-use Rattle.std.proofs.Common.{rules}
 use Rattle.reader.proofs.inner.bits_left.Goals as goal
 
 pub place_of-requires : goal.place_of-requires

@@ -2,7 +2,6 @@
 use Prim.Native.Nat.{ℕ, ◌/◌}
 use mathlib.Core.Path.{ap}
 use Rattle.reader.specs.Cursor.{bytes_left}
-use Rattle.std.proofs.Common.{rules}
 use Rattle.reader.proofs.inner.bytes_left.Goals as goal
 
 pub bits_left-requires : goal.bits_left-requires

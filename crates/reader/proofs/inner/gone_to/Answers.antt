@@ -5,7 +5,6 @@ use Rattle.counts.specs.declared.Counts.{Counts}
 use Rattle.counts.specs.Counts.{Within}
 use Rattle.counts.proofs.PlaceLaws.{at_within}
 use Rattle.reader.specs.Cursor.{with_state, cursor_at, gone_to}
-use Rattle.std.proofs.Common.{rules}
 use Rattle.reader.proofs.inner.gone_to.Goals as goal
 
 pub state_at-requires : goal.state_at-requires

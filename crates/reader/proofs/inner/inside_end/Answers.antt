@@ -2,7 +2,6 @@
 use native.Mathlib.Omega.{arith}
 use borrow.Author.Tests.{le-leb, lt-leb}
 use Rattle.reader.specs.Cursor.{inside_end}
-use Rattle.std.proofs.Common.{rules}
 use Rattle.reader.proofs.inner.inside_end.Goals as goal
 
 pub returns-then-len-gt-LONGEST : goal.returns-then-len-gt-LONGEST

@@ -11,7 +11,6 @@ use Rattle.lookahead.specs.State.{register_of}
 use Rattle.lookahead.proofs.StateLaws.{inside_is}
 use Rattle.reader.specs.Cursor.{counts_in, inside_end, is_inside}
 use Rattle.reader.proofs.ReadLaws.{end_is}
-use Rattle.std.proofs.Common.{rules}
 use Rattle.reader.proofs.inner.is_inside.Goals as goal
 use Rattle.reader.proofs.inner.is_inside.Goals.{After-struct_known-1, Else-inside_end, Then-inside_end}
 

@@ -4,7 +4,6 @@ use borrow.Author.Tests.{lt-ltb, le-ltb, ne_eqb}
 use Rattle.bits.specs.Refusals.{or_else, first_refusal}
 use Rattle.reader.proofs.CursorLaws.{refusal_own}
 use Rattle.reader.specs.Answers.{manual_refusal}
-use Rattle.std.proofs.Common.{rules}
 use Rattle.reader.proofs.inner.manual_refusal.Goals as goal
 
 pub returns-then-own-ne-DONE : goal.returns-then-own-ne-DONE

@@ -14,7 +14,6 @@ use Rattle.octets.specs.Octets.{octets}
 use Rattle.lookahead.specs.State.{state_of}
 use Rattle.reader.specs.Cursor.{with_state, counts_in, cursor_at}
 use Rattle.reader.proofs.CursorLaws.{left_inside, bytes_bits, bytes_le}
-use Rattle.std.proofs.Common.{rules}
 use Rattle.reader.proofs.inner.read_bytes.Goals as goal
 use Rattle.reader.proofs.inner.read_bytes.Goals.{After-after_bytes-next, After-with_state}
 

@@ -3,7 +3,6 @@ use mathlib.Core.Path.{◌≡◌, sym, ap, ◌∙◌}
 use Rattle.reader.specs.declared.ReadU64.{ReadU64}
 use Rattle.reader.specs.Cursor.{with_state}
 use Rattle.reader.proofs.EndLaws.{read_end}
-use Rattle.std.proofs.Common.{rules}
 use Rattle.reader.proofs.inner.read_out.Goals as goal
 
 pub returns : goal.returns

@@ -16,7 +16,6 @@ use Rattle.reader.specs.Cursor.{with_state, counts_in, cursor_at, Own}
 use Rattle.reader.proofs.CursorLaws.{own_state}
 use Rattle.reader.specs.Answers.{read_refusal, read_of}
 use Rattle.reader.proofs.ReadLaws.{inside-done, read_done}
-use Rattle.std.proofs.Common.{rules}
 use Rattle.reader.proofs.inner.read_parts.Goals as goal
 use Rattle.reader.proofs.inner.read_parts.Goals.{After-done_with, After-state_in}
 

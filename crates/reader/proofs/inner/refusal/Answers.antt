@@ -6,7 +6,6 @@ use Rattle.bits.specs.Refusals.{or_else, first_refusal}
 use Rattle.lookahead.specs.State.{state_refusal, Belongs}
 use Rattle.lookahead.proofs.StateLaws.{refusal_belongs}
 use Rattle.reader.specs.Cursor.{state_in, cursor_refusal}
-use Rattle.std.proofs.Common.{rules}
 use Rattle.reader.proofs.inner.refusal.Goals as goal
 use Rattle.reader.proofs.inner.refusal.Goals.{After-struct_known-1, After-struct_known-2-1, Else-c, Else-src-c, Then-c, Then-own-ne-DONE, Then-src-c}
 

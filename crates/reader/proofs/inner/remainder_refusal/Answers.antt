@@ -2,7 +2,6 @@
 use borrow.Author.Tests.{eq-eqb, ne_eqb}
 use Rattle.bits.specs.Refusals.{or_else, first_refusal}
 use Rattle.reader.specs.Answers.{remainder_refusal}
-use Rattle.std.proofs.Common.{rules}
 use Rattle.reader.proofs.inner.remainder_refusal.Goals as goal
 
 pub returns-then-own-ne-DONE : goal.returns-then-own-ne-DONE

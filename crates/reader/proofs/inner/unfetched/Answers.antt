@@ -2,7 +2,6 @@
 use mathlib.Core.Path.{refl}
 use native.Mathlib.Omega.{arith}
 use Rattle.reader.specs.Cursor.{unfetched}
-use Rattle.std.proofs.Common.{rules}
 use Rattle.reader.proofs.inner.unfetched.Goals as goal
 
 pub returns-then-last-c : goal.returns-then-last-c

@@ -1,11 +1,10 @@
 -- `fits` meets its contract: a magnitude comes back from its 64 bits. Assumes nothing.
-use Rattle.std.proofs.Common.{◌≡◌, ◌<◌, ℤ, ap, ◌∙◌, arith, w16, rules}
+use Rattle.std.proofs.Common.{◌≡◌, ◌<◌, ℤ, ap, ◌∙◌, arith, w16}
 use lib.Signed.{mag}
 use mir.ValLaws.{to_z-of_z}
 use Rattle.bits.specs.Signed.{signed, pattern}
 use Rattle.sign.proofs.SignedLaws.{signed-pattern}
 use Rattle.record.specs.Record.{depth, fits}
-use Rattle.std.proofs.Common.{rules}
 use Rattle.record.proofs.inner.fits.Goals as goal
 
 pub returns : goal.returns

@@ -1,8 +1,7 @@
 -- `magnitude_number` meets its contract: the cast to 64 bits loses nothing. Assumes nothing.
-use Rattle.std.proofs.Common.{ap, ◌∙◌, w16, rules}
+use Rattle.std.proofs.Common.{ap, ◌∙◌, w16}
 use Rattle.bits.specs.Signed.{pattern}
 use Rattle.sign.proofs.CastLaws.{widened}
-use Rattle.std.proofs.Common.{rules}
 use Rattle.record.proofs.inner.magnitude_number.Goals as goal
 
 pub overflow_cast-magnitude : goal.overflow_cast-magnitude

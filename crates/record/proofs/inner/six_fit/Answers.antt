@@ -1,8 +1,7 @@
 -- `six_fit` meets its contract: each test that passed or failed decides its part of the conjunction. Assumes nothing.
-use Rattle.std.proofs.Common.{◌^◌, sym, rules, le-ltb, lt-ltb}
+use Rattle.std.proofs.Common.{◌^◌, sym, le-ltb, lt-ltb}
 use Rattle.record.specs.Record.{fits}
 use Rattle.record.proofs.FitLaws.{sixteen_fit}
-use Rattle.std.proofs.Common.{rules}
 use Rattle.record.proofs.inner.six_fit.Goals as goal
 
 pub returns-then-filter-lt16 : goal.returns-then-filter-lt16

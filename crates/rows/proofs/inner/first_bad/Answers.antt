@@ -1,13 +1,11 @@
 -- `first_bad` meets its contract: the first bad row among those still to come is the first of all (`next_bad`). Assumes nothing.
 use mathlib.Core.Path.{◌≡◌, refl, sym, ap, ◌∙◌}
-use Prim.Native.Nat.{ℕ, ◌+◌, ◌-◌, ◌*◌, ◌≤◌}
+use Prim.Native.Nat.{ℕ, ◌+◌, ◌-◌, ◌*◌}
 use native.Mathlib.Nat.{sub-zero}
 use native.Mathlib.Omega.{arith}
 use mathlib.Core.Bool.{Bool, cond}
-use Rattle.rows.specs.Row.{row_length}
 use Rattle.rows.specs.Rows.{bad_from}
 use Rattle.rows.proofs.RowsLaws.{next_bad, none_bad}
-use Rattle.std.proofs.Common.{rules}
 use Rattle.rows.proofs.inner.first_bad.Goals as goal
 use Rattle.rows.proofs.inner.first_bad.Goals.{Else-row_good, Then-row_good}
 

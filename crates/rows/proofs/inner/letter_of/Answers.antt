@@ -1,7 +1,6 @@
 -- `letter_of` meets its contract, by its test. Assumes nothing.
 use borrow.Author.Tests.{eq-eqb, ne_eqb}
 use Rattle.rows.specs.Row.{letter}
-use Rattle.std.proofs.Common.{rules}
 use Rattle.rows.proofs.inner.letter_of.Goals as goal
 
 pub returns-then-limit-eq1 : goal.returns-then-limit-eq1

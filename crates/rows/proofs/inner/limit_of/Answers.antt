@@ -1,6 +1,5 @@
 -- `limit_of` meets its contract, by its test. Assumes nothing.
 use borrow.Author.Tests.{eq-eqb, ne_eqb}
-use Rattle.std.proofs.Common.{rules}
 use Rattle.rows.proofs.inner.limit_of.Goals as goal
 
 pub returns-then-letter-eq-LETTER_T : goal.returns-then-letter-eq-LETTER_T

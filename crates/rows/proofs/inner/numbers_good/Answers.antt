@@ -2,8 +2,6 @@
 use mathlib.Core.Path.{sym}
 use mathlib.Core.Bool.{and-true, and-false}
 use borrow.Author.Tests.{lt-ltb, le-ltb, eq-eqb, ne_eqb}
-use Rattle.rows.proofs.PartLaws.{good_numbers}
-use Rattle.std.proofs.Common.{rules}
 use Rattle.rows.proofs.inner.numbers_good.Goals as goal
 
 pub returns-then-letter-eq-LETTER_T : goal.returns-then-letter-eq-LETTER_T

@@ -1,7 +1,6 @@
 -- `pack_refusal` meets its contract: the tests, one by one; 89 n bits have room in len bytes if n is at most 8 len / 89. Assumes nothing.
 use mathlib.Core.Path.{sym, ◌∙◌}
 use Rattle.rows.proofs.AnswerLaws.{found_is, long_rows, long_out, no_room_lem, bad_row_lem, all_good}
-use Rattle.std.proofs.Common.{rules}
 use Rattle.rows.proofs.inner.pack_refusal.Goals as goal
 
 pub returns-then-rows-gt-LONGEST : goal.returns-then-rows-gt-LONGEST

@@ -1,9 +1,7 @@
 -- `put_columns` meets its contract: of the three words that overlap the row stays (`row_stored`). Assumes nothing.
-use Prim.Native.Nat.{◌-◌}
 use native.Mathlib.Omega.{arith}
 use Rattle.rows.proofs.ColumnLaws.{letter-lt}
 use Rattle.rows.proofs.RowLaws.{row_stored}
-use Rattle.std.proofs.Common.{rules}
 use Rattle.rows.proofs.inner.put_columns.Goals as goal
 
 pub overflow_mul-low : goal.overflow_mul-low

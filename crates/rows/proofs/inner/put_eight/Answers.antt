@@ -1,9 +1,7 @@
 -- `put_eight` meets its contract: each row stands behind those before it (`one_more`). Assumes nothing.
 use Prim.Native.Nat.{◌*◌}
-use native.Mathlib.Omega.{arith}
 use lib.Seq.{length-sets}
 use Rattle.rows.proofs.StripRowsLaws.{no_row, one_more}
-use Rattle.std.proofs.Common.{rules}
 use Rattle.rows.proofs.inner.put_eight.Goals as goal
 
 pub returns : goal.returns

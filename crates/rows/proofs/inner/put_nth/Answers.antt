@@ -6,7 +6,6 @@ use lib.Seq.{sets}
 use Rattle.record.specs.Record.{record_bits}
 use Rattle.strip.specs.Bits.{record_at}
 use Rattle.rows.specs.Row.{row_bytes, row_length}
-use Rattle.std.proofs.Common.{rules}
 use Rattle.rows.proofs.inner.put_nth.Goals as goal
 
 pub returns : goal.returns

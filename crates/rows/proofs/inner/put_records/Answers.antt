@@ -1,6 +1,6 @@
 -- `put_records` meets its contract: what is still to be put from here is what was to be put at first (`underway_step`). Assumes nothing.
 use mathlib.Core.Path.{◌≡◌, sym, ap, ◌∙◌, subst}
-use Prim.Native.Nat.{◌-◌, ◌*◌}
+use Prim.Native.Nat.{◌*◌}
 use native.Mathlib.Omega.{arith}
 use mathlib.Core.Bool.{true}
 use lib.ListN.{length}
@@ -14,8 +14,7 @@ use Rattle.record.specs.Record.{fits}
 use Rattle.record.proofs.FitLaws.{true-fits}
 use Rattle.rows.specs.Row.{columns_at, record_said}
 use Rattle.rows.proofs.RowsLaws.{row_fits}
-use Rattle.rows.proofs.UnderwayLaws.{Underway, underway_start, underway_good, underway_room, underway_step, underway_length, underway_out}
-use Rattle.std.proofs.Common.{rules}
+use Rattle.rows.proofs.UnderwayLaws.{underway_start, underway_good, underway_room, underway_step, underway_length, underway_out}
 use Rattle.rows.proofs.inner.put_records.Goals as goal
 use Rattle.rows.proofs.inner.put_records.Goals.{After-slice_known-2-1}
 

@@ -11,7 +11,6 @@ use Rattle.record.specs.Record.{Fits}
 use Rattle.record.proofs.FitLaws.{fits-true}
 use Rattle.strip.proofs.FitLaws.{with_magnitude}
 use Rattle.rows.specs.Row.{row_bytes}
-use Rattle.std.proofs.Common.{rules}
 use Rattle.rows.proofs.inner.put_row.Goals as goal
 use Rattle.rows.proofs.inner.put_row.Goals.{After-slice_known-2-1, After-struct_known-4-1}
 

@@ -1,6 +1,6 @@
 -- `put_row_at` meets its contract: a place is its byte and the bits used of it; near the end the fields give the record (`record_in_lem`). Assumes nothing.
 use mathlib.Core.Path.{◌≡◌, sym, ap, ◌∙◌, subst}
-use Prim.Native.Nat.{ℕ, ◌+◌, ◌-◌, ◌*◌, ◌/◌, ◌%◌, ◌^◌, ◌<◌}
+use Prim.Native.Nat.{ℕ, ◌+◌, ◌*◌, ◌/◌, ◌%◌, ◌^◌, ◌<◌}
 use native.Mathlib.Omega.{arith}
 use lib.Seq.{sets}
 use Rattle.bits.specs.declared.Order.TheVariants.{Big}
@@ -9,7 +9,6 @@ use Rattle.record.specs.declared.Record.{Record}
 use Rattle.strip.specs.Bits.{record_at}
 use Rattle.strip.proofs.BitsLaws.{record_in_lem}
 use Rattle.rows.specs.Row.{row_bytes}
-use Rattle.std.proofs.Common.{rules}
 use Rattle.rows.proofs.inner.put_row_at.Goals as goal
 
 pub put_parts-requires : goal.put_parts-requires

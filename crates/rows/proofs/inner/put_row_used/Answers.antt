@@ -1,6 +1,6 @@
 -- `put_row_used` meets its contract: the three parts of the record are parts of the two words (`star_part`, `date_part`, `rest_part`). Assumes nothing.
 use mathlib.Core.Path.{ap, ◌∙◌}
-use Prim.Native.Nat.{◌+◌, ◌-◌, ◌*◌}
+use Prim.Native.Nat.{◌+◌, ◌*◌}
 use lib.Seq.{sets}
 use Rattle.bits.specs.declared.Order.TheVariants.{Big}
 use Rattle.bits.specs.Word.{skipped}
@@ -8,7 +8,6 @@ use Rattle.record.specs.declared.Record.{Record}
 use Rattle.strip.proofs.BitsLaws.{record_in_lem}
 use Rattle.rows.specs.Row.{row_bytes}
 use Rattle.rows.proofs.StripRowsLaws.{star_part, date_part, rest_part}
-use Rattle.std.proofs.Common.{rules}
 use Rattle.rows.proofs.inner.put_row_used.Goals as goal
 
 pub returns : goal.returns

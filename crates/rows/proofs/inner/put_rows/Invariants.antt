@@ -1,10 +1,6 @@
 -- `put_rows` meets its contract: in both loops what is left to be stored from here is what was left at first (`left_step`). Assumes nothing.
-use mathlib.Core.Path.{ap, ◌∙◌}
-use Prim.Native.Nat.{ℕ, ◌-◌, ◌*◌}
-use native.Mathlib.Nat.{sub-zero}
-use native.Mathlib.Omega.{arith}
-use lib.Seq.{sets}
-use Rattle.rows.proofs.StripRowsLaws.{rows_from, Left, one_row, left_start, left_step, left_none}
+use Prim.Native.Nat.{◌-◌, ◌*◌}
+use Rattle.rows.proofs.StripRowsLaws.{Left}
 use Rattle.rows.proofs.inner.put_rows.Given as goal
 
 abbrev pub invariant-loop-i : goal.invariant-loop-i

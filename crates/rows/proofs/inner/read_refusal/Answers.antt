@@ -2,7 +2,6 @@
 use borrow.Author.Tests.{lt-ltb, le-ltb}
 use Rattle.bits.specs.Refusals.{or_else, first_refusal}
 use Rattle.rows.specs.Answers.{read_refusal}
-use Rattle.std.proofs.Common.{rules}
 use Rattle.rows.proofs.inner.read_refusal.Goals as goal
 
 pub returns-then-src-gt-LONGEST : goal.returns-then-src-gt-LONGEST

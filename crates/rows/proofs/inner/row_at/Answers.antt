@@ -11,7 +11,6 @@ use Rattle.bits.specs.Signed.{signed}
 use Rattle.sign.proofs.SignedLaws.{narrowed}
 use Rattle.rows.specs.Row.{columns_at, record_said, letter_t}
 use Rattle.rows.proofs.PartLaws.{three_words, Words, plain_columns}
-use Rattle.std.proofs.Common.{rules}
 use Rattle.rows.proofs.inner.row_at.Goals as goal
 use Rattle.rows.proofs.inner.row_at.Goals.{After-extend}
 

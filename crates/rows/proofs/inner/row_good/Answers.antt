@@ -2,7 +2,6 @@
 use mathlib.Core.Path.{◌∙◌}
 use Prim.Native.Nat.{◌*◌}
 use Rattle.rows.proofs.PartLaws.{good_numbers, good_numbers_lem, three_words}
-use Rattle.std.proofs.Common.{rules}
 use Rattle.rows.proofs.inner.row_good.Goals as goal
 
 pub returns : goal.returns

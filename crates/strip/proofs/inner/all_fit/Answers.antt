@@ -1,13 +1,12 @@
 -- `all_fit` meets its contract: whether the records still to come fit decides at each turn whether all do (`next_fits`). Assumes nothing.
 use mathlib.Core.Path.{◌≡◌, sym, ap, ◌∙◌}
 use mathlib.Core.Bool.{Bool, ◌&&◌}
-use Prim.Native.Nat.{ℕ, ◌+◌, ◌-◌, ◌*◌, ◌≤◌}
+use Prim.Native.Nat.{ℕ, ◌+◌, ◌-◌}
 use native.Mathlib.Nat.{sub-zero}
 use native.Mathlib.Omega.{arith}
-use lib.ListN.{length, drop}
+use lib.ListN.{drop}
 use Rattle.strip.specs.Strip.{records_in, all_fit}
 use Rattle.strip.proofs.ListLaws.{next_fits, no_record_left}
-use Rattle.std.proofs.Common.{rules}
 use Rattle.strip.proofs.inner.all_fit.Goals as goal
 use Rattle.strip.proofs.inner.all_fit.Goals.{Else-six_fit, Then-six_fit}
 

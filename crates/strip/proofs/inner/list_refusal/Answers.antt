@@ -2,7 +2,6 @@
 use borrow.Author.Tests.{lt-ltb, le-ltb}
 use Rattle.bits.specs.Refusals.{or_else, first_refusal}
 use Rattle.strip.specs.Answers.{list_refusal}
-use Rattle.std.proofs.Common.{rules}
 use Rattle.strip.proofs.inner.list_refusal.Goals as goal
 
 pub returns-then-src-gt-LONGEST : goal.returns-then-src-gt-LONGEST

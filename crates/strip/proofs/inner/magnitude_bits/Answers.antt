@@ -6,7 +6,6 @@ use mir.Syntax.{w16}
 use mir.ValLaws.{to_z-of_z}
 use Rattle.bits.specs.Signed.{pattern}
 use Rattle.sign.proofs.SignedLaws.{pattern_low}
-use Rattle.std.proofs.Common.{rules}
 use Rattle.strip.proofs.inner.magnitude_bits.Goals as goal
 
 pub returns : goal.returns

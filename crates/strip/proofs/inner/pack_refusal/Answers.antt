@@ -7,7 +7,6 @@ use Rattle.packing.specs.Packing.{state_refusal}
 use Rattle.packing.proofs.BelongsLaws.{refusal_belongs}
 use Rattle.writer.specs.Writer.{writer_refusal}
 use Rattle.strip.specs.Answers.{pack_refusal}
-use Rattle.std.proofs.Common.{rules}
 use Rattle.strip.proofs.inner.pack_refusal.Goals as goal
 use Rattle.strip.proofs.inner.pack_refusal.Goals.{After-room_refusal, Else-fits, Then-fits, Then-refusal-ne-DONE}
 

@@ -1,7 +1,7 @@
 -- `put_numbers` meets its contract: what is still to be stored from here is what was to be stored at first. Assumes nothing.
 use mathlib.Core.Path.{◌≡◌, refl, ap, ◌∙◌}
 use mathlib.Core.List.{List}
-use Prim.Native.Nat.{ℕ, ◌+◌, ◌-◌, ◌*◌, ◌≤◌}
+use Prim.Native.Nat.{ℕ, ◌+◌, ◌-◌}
 use native.Mathlib.Nat.{sub-zero}
 use native.Mathlib.Omega.{arith}
 use lib.ListN.{length}
@@ -10,7 +10,6 @@ use Rattle.record.specs.Record.{record_bits}
 use Rattle.strip.specs.Bits.{record_at}
 use Rattle.strip.specs.Strip.{numbers_of, all_numbers, records_from}
 use Rattle.strip.proofs.ListLaws.{next_stored, none_stored}
-use Rattle.std.proofs.Common.{rules}
 use Rattle.strip.proofs.inner.put_numbers.Goals as goal
 
 pub loop-i-init : goal.loop-i-init

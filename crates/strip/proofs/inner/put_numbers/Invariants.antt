@@ -1,15 +1,10 @@
 -- `put_numbers` meets its contract: what is still to be stored from here is what was to be stored at first. Assumes nothing.
-use mathlib.Core.Path.{◌≡◌, refl, ap, ◌∙◌}
-use mathlib.Core.List.{List}
-use Prim.Native.Nat.{ℕ, ◌+◌, ◌-◌, ◌*◌, ◌≤◌}
-use native.Mathlib.Nat.{sub-zero}
-use native.Mathlib.Omega.{arith}
+use mathlib.Core.Path.{◌≡◌}
+use Prim.Native.Nat.{◌+◌, ◌-◌, ◌*◌, ◌≤◌}
 use lib.ListN.{length}
-use lib.Seq.{sets, length-sets}
+use lib.Seq.{sets}
 use Rattle.record.specs.Record.{record_bits}
-use Rattle.strip.specs.Bits.{record_at}
-use Rattle.strip.specs.Strip.{numbers_of, all_numbers, records_from}
-use Rattle.strip.proofs.ListLaws.{next_stored, none_stored}
+use Rattle.strip.specs.Strip.{all_numbers, records_from}
 use Rattle.strip.proofs.inner.put_numbers.Given as goal
 
 abbrev pub invariant-loop-i : goal.invariant-loop-i

@@ -2,7 +2,6 @@
 use mathlib.Core.Path.{ap, ◌∙◌}
 use lib.Seq.{sets}
 use Rattle.strip.proofs.BitsLaws.{numbers_in}
-use Rattle.std.proofs.Common.{rules}
 use Rattle.strip.proofs.inner.put_numbers_at.Goals as goal
 
 pub returns-then-place-src : goal.returns-then-place-src

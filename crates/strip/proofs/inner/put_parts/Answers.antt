@@ -6,7 +6,6 @@ use native.Mathlib.Omega.{arith}
 use lib.ListN.{length-set}
 use lib.Seq.{sets}
 use Rattle.strip.proofs.ListLaws.{six_stored}
-use Rattle.std.proofs.Common.{rules}
 use Rattle.strip.proofs.inner.put_parts.Goals as goal
 
 pub bounds-numbers-at-2 : goal.bounds-numbers-at-2

@@ -12,7 +12,6 @@ use Rattle.record.specs.Record.{Fits, record_bits}
 use Rattle.strip.specs.Bits.{bits_of}
 use Rattle.record.proofs.FitLaws.{fits-true}
 use Rattle.strip.proofs.FitLaws.{with_magnitude}
-use Rattle.std.proofs.Common.{rules}
 use Rattle.strip.proofs.inner.put_record.Goals as goal
 use Rattle.strip.proofs.inner.put_record.Goals.{After-slice_known-2-1, After-struct_known-4-1}
 

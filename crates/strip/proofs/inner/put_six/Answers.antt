@@ -10,7 +10,6 @@ use Rattle.packing.specs.Packing.{bits_written, put, put_out}
 use Rattle.packing.proofs.PutLaws.{put-put, put-put_out, put_next}
 use Rattle.record.specs.Record.{record_bits}
 use Rattle.strip.proofs.BitsLaws.{bits_in_two}
-use Rattle.std.proofs.Common.{rules}
 use Rattle.strip.proofs.inner.put_six.Goals as goal
 use Rattle.strip.proofs.inner.put_six.Goals.{After-put_bits-arg-2-1, After-slice_known-3-1}
 

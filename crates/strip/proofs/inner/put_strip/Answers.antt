@@ -1,6 +1,6 @@
 -- `put_strip` meets its contract: what is still to be put from here is what was to be put at first (`underway_step`). Assumes nothing.
 use mathlib.Core.Path.{◌≡◌, sym, ap, ◌∙◌, subst}
-use Prim.Native.Nat.{◌+◌, ◌-◌, ◌*◌, ◌≤◌}
+use Prim.Native.Nat.{◌+◌, ◌*◌, ◌≤◌}
 use native.Mathlib.Nat.{mod-lt}
 use native.Mathlib.Omega.{arith}
 use lib.ListN.{length}
@@ -12,8 +12,7 @@ use Rattle.writer.specs.declared.Writer.{Writer}
 use Rattle.writer.specs.Writer.{state_in, writer_with, padding}
 use Rattle.record.specs.Record.{Fits, record_bits}
 use Rattle.strip.proofs.ListLaws.{record_from}
-use Rattle.strip.proofs.UnderwayLaws.{Underway, underway_start, underway_fits, underway_room, underway_step, underway_length, underway_out}
-use Rattle.std.proofs.Common.{rules}
+use Rattle.strip.proofs.UnderwayLaws.{underway_start, underway_fits, underway_room, underway_step, underway_length, underway_out}
 use Rattle.strip.proofs.inner.put_strip.Goals as goal
 use Rattle.strip.proofs.inner.put_strip.Goals.{After-shared_slice_known-in-loop-i-6-1, After-slice_known-2-1}
 

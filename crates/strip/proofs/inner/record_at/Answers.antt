@@ -12,7 +12,6 @@ use Rattle.bits.specs.Signed.{signed}
 use Rattle.sign.proofs.SignedLaws.{narrowed}
 use Rattle.strip.specs.Bits.{record_at}
 use Rattle.strip.proofs.BitsLaws.{limit_in, magnitude_in, error_in, filter_in}
-use Rattle.std.proofs.Common.{rules}
 use Rattle.strip.proofs.inner.record_at.Goals as goal
 use Rattle.strip.proofs.inner.record_at.Goals.{After-extend}
 

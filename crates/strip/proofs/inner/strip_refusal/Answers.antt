@@ -1,7 +1,6 @@
 -- `strip_refusal` meets its contract: the records named are those of the whole sixes that there are (`whole_records`), and 89 n bits have
 -- room in len bytes if n is at most 8 len / 89. Assumes nothing.
 use mathlib.Core.Path.{◌≡◌, sym, ap, ◌∙◌}
-use mathlib.Core.Logic.{⊎_elim}
 use Prim.Native.Nat.{ℕ, ◌*◌, ◌/◌, ◌<◌, ◌≤◌, min}
 use native.Mathlib.Omega.{arith}
 use lib.ListN.{length}
@@ -10,7 +9,6 @@ use Rattle.bits.specs.Refusals.{or_else, first_refusal}
 use Rattle.strip.specs.Strip.{records_in, all_fit, strip_length}
 use Rattle.strip.specs.Answers.{strip_refusal}
 use Rattle.strip.proofs.ListLaws.{whole_records}
-use Rattle.std.proofs.Common.{rules}
 use Rattle.strip.proofs.inner.strip_refusal.Goals as goal
 use Rattle.strip.proofs.inner.strip_refusal.Goals.{Else-all_fit, Else-len-n, Joined-n-there, Then-len-n, Then-there-n, then-n-there, else-n-there}
 

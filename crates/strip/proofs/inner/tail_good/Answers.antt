@@ -9,7 +9,6 @@ use Rattle.bits.specs.declared.Order.TheVariants.{Big}
 use Rattle.bits.specs.Field.{field}
 use Rattle.record.specs.Record.{record_bits}
 use Rattle.strip.specs.Strip.{tail_good}
-use Rattle.std.proofs.Common.{rules}
 use Rattle.strip.proofs.inner.tail_good.Goals as goal
 
 pub returns-then-bits-lt8 : goal.returns-then-bits-lt8

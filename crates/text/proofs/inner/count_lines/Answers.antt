@@ -1,12 +1,10 @@
 -- `count_lines` meets its contract: what is left from each line on gives all there is (`left_next`). Assumes nothing.
 use mathlib.Core.Path.{◌≡◌, sym, ◌∙◌}
 use mathlib.Core.Bool.{true}
-use Prim.Native.Nat.{◌-◌}
-use lib.ListN.{length, drop}
+use lib.ListN.{drop}
 use native.Mathlib.Omega.{arith}
 use Rattle.line.specs.Reading.{begins}
-use Rattle.text.proofs.LinesLaws.{Left, left_start, left_next, left_bad, left_end}
-use Rattle.std.proofs.Common.{rules}
+use Rattle.text.proofs.LinesLaws.{left_start, left_next, left_bad, left_end}
 use Rattle.text.proofs.inner.count_lines.Goals as goal
 use Rattle.text.proofs.inner.count_lines.Goals.{Then-line}
 

@@ -2,14 +2,13 @@
 use mathlib.Core.Path.{◌≡◌, refl, sym, ap, ◌∙◌}
 use mathlib.Core.Bool.{Bool, ◌&&◌}
 use mathlib.Core.List.{List}
-use Prim.Native.Nat.{ℕ, ◌+◌, ◌-◌, ◌≤◌}
-use lib.ListN.{length, get_or, drop}
+use Prim.Native.Nat.{ℕ, ◌+◌}
+use lib.ListN.{get_or, drop}
 use lib.Dec.{eqb}
 use native.Mathlib.Omega.{arith}
 use borrow.Author.Tests.{eq-eqb, ne_eqb}
 use Rattle.text.specs.Text.{header, headed}
 use Rattle.text.proofs.HeaderLaws.{header_bytes, header_is, header_length, headed_next, headed_short}
-use Rattle.std.proofs.Common.{rules}
 use Rattle.text.proofs.inner.has_header.Goals as goal
 use Rattle.text.proofs.inner.has_header.Goals.{Else-text-k, Then-text-k}
 

@@ -7,7 +7,6 @@ use Rattle.bits.specs.Refusals.{or_else, first_refusal}
 use Rattle.text.specs.Text.{text_of}
 use Rattle.text.specs.Answers.{list_refusal}
 use Rattle.text.proofs.ListLaws.{text_few}
-use Rattle.std.proofs.Common.{rules}
 use Rattle.text.proofs.inner.list_refusal.Goals as goal
 
 pub returns-then-strip-gt-LONGEST : goal.returns-then-strip-gt-LONGEST

@@ -7,7 +7,6 @@ use Rattle.text.specs.Text.{header, body_of}
 use Rattle.text.proofs.HeaderLaws.{headed_long}
 use Rattle.text.proofs.LinesLaws.{body_few}
 use Rattle.text.proofs.AnswerLaws.{long_text, long_out, other_header, bad_line_lem, no_room_lem, has_room}
-use Rattle.std.proofs.Common.{rules}
 use Rattle.text.proofs.inner.pack_refusal.Goals as goal
 use Rattle.text.proofs.inner.pack_refusal.Goals.{After-because-then-has_header, After-because-then-len-lines, After-because-then-lines, After-struct_known-then-has_header-1}
 

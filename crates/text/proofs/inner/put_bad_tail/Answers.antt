@@ -1,12 +1,11 @@
 -- `put_bad_tail` meets its contract: what is still to be stored from each place on is `bad tail` (`store_next`). Assumes nothing.
 use mathlib.Core.Path.{◌≡◌, refl, sym, ap, ◌∙◌}
-use Prim.Native.Nat.{ℕ, ◌+◌, ◌-◌, ◌≤◌}
-use lib.ListN.{length, get_or, set, drop, length-set}
+use Prim.Native.Nat.{ℕ, ◌+◌}
+use lib.ListN.{get_or, set, drop, length-set}
 use lib.Seq.{sets}
 use native.Mathlib.Nat.{add-zero}
 use native.Mathlib.Omega.{arith}
 use Rattle.text.proofs.HeaderLaws.{bad_tail_bytes, bad_tail_is, bad_tail_length, length-bad_tail, store_next}
-use Rattle.std.proofs.Common.{rules}
 use Rattle.text.proofs.inner.put_bad_tail.Goals as goal
 
 pub loop-i-init : goal.loop-i-init

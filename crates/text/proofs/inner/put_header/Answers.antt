@@ -1,11 +1,10 @@
 -- `put_header` meets its contract: what is still to be stored from each place on is the header (`store_next`). Assumes nothing.
 use mathlib.Core.Path.{◌≡◌, refl, sym, ap, ◌∙◌}
-use Prim.Native.Nat.{ℕ, ◌-◌, ◌≤◌}
-use lib.ListN.{length, drop, length-set}
+use Prim.Native.Nat.{ℕ}
+use lib.ListN.{drop, length-set}
 use lib.Seq.{sets}
 use native.Mathlib.Omega.{arith}
 use Rattle.text.proofs.HeaderLaws.{header_bytes, header_is, header_length, length-header, store_next}
-use Rattle.std.proofs.Common.{rules}
 use Rattle.text.proofs.inner.put_header.Goals as goal
 
 pub loop-i-init : goal.loop-i-init

@@ -1,10 +1,9 @@
 -- `put_header` meets its contract: what is still to be stored from each place on is the header (`store_next`). Assumes nothing.
-use mathlib.Core.Path.{◌≡◌, refl, sym, ap, ◌∙◌}
-use Prim.Native.Nat.{ℕ, ◌-◌, ◌≤◌}
-use lib.ListN.{length, drop, length-set}
+use mathlib.Core.Path.{◌≡◌}
+use Prim.Native.Nat.{◌-◌, ◌≤◌}
+use lib.ListN.{length, drop}
 use lib.Seq.{sets}
-use native.Mathlib.Omega.{arith}
-use Rattle.text.proofs.HeaderLaws.{header_bytes, header_is, header_length, length-header, store_next}
+use Rattle.text.proofs.HeaderLaws.{header_bytes, header_length}
 use Rattle.text.proofs.inner.put_header.Given as goal
 
 abbrev pub invariant-loop-i : goal.invariant-loop-i

@@ -1,7 +1,6 @@
 -- `put_records` meets its contract: the records of the lines still to come, put from here, give what all give from the start
 -- (`underway_step`). Assumes nothing.
 use mathlib.Core.Path.{◌≡◌, sym, ap, ◌∙◌, subst}
-use Prim.Native.Nat.{◌-◌}
 use lib.ListN.{length}
 use native.Mathlib.Omega.{arith}
 use Rattle.bits.specs.declared.Order.TheVariants.{Big}
@@ -11,8 +10,7 @@ use Rattle.writer.specs.declared.Writer.{Writer}
 use Rattle.writer.specs.Writer.{state_in, writer_with, padding}
 use Rattle.strip.proofs.MidwayLaws.{midway_length, midway_out}
 use Rattle.text.specs.Text.{body_of}
-use Rattle.text.proofs.PackLaws.{Underway, underway_start, underway_further, underway_fits, underway_room, underway_step, underway_end}
-use Rattle.std.proofs.Common.{rules}
+use Rattle.text.proofs.PackLaws.{underway_start, underway_further, underway_fits, underway_room, underway_step, underway_end}
 use Rattle.text.proofs.inner.put_records.Goals as goal
 use Rattle.text.proofs.inner.put_records.Goals.{After-slice_known-2-1}
 

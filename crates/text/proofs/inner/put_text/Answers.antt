@@ -2,20 +2,19 @@
 -- the whole text is room for each of its parts. Assumes nothing.
 use mathlib.Core.Path.{◌≡◌, refl, sym, ap, ap₂, ◌∙◌, subst}
 use mathlib.Core.List.{List}
-use Prim.Native.Nat.{ℕ, ◌+◌, ◌-◌, ◌*◌, ◌≤◌}
+use Prim.Native.Nat.{ℕ, ◌+◌, ◌≤◌}
 use lib.ListN.{length}
 use lib.Seq.{sets, length-sets}
 use native.Mathlib.Omega.{arith}
 use Rattle.record.specs.declared.Record.{Record}
 use Rattle.record.specs.Record.{Fits, record_bits}
 use Rattle.strip.specs.Bits.{record_at}
-use Rattle.strip.specs.Strip.{records_from, records_of, count_of}
+use Rattle.strip.specs.Strip.{records_of, count_of}
 use Rattle.listing.specs.Listing.{line_of, size_of}
 use Rattle.text.specs.Text.{bad_tail, listed}
 use Rattle.text.proofs.HeaderLaws.{header_length, length-header, length-bad_tail}
 use Rattle.strip.proofs.PackedLaws.{record_fits}
 use Rattle.text.proofs.ListLaws.{lines_left, all_left, next_size, next_put, none_left, text_size, good_size, bad-size, head_put, good_put, bad-put}
-use Rattle.std.proofs.Common.{rules}
 use Rattle.text.proofs.inner.put_text.Goals as goal
 use Rattle.text.proofs.inner.put_text.Goals.{After-loop-i, After-put_bad_tail-arg-1, After-put_line-arg-1, After-slice_known-3-1, After-slice_known-in-loop-i-1, Then-tail_good}
 

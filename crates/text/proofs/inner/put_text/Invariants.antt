@@ -1,20 +1,14 @@
 -- `put_text` meets its contract: the lines still to come, put from here, give all lines behind the header (`next_put`), and the room for
 -- the whole text is room for each of its parts. Assumes nothing.
-use mathlib.Core.Path.{◌≡◌, refl, sym, ap, ap₂, ◌∙◌, subst}
-use mathlib.Core.List.{List}
-use Prim.Native.Nat.{ℕ, ◌+◌, ◌-◌, ◌*◌, ◌≤◌}
+use mathlib.Core.Path.{◌≡◌}
+use Prim.Native.Nat.{◌+◌, ◌-◌, ◌*◌, ◌≤◌}
 use lib.ListN.{length}
-use lib.Seq.{sets, length-sets}
-use native.Mathlib.Omega.{arith}
-use Rattle.record.specs.declared.Record.{Record}
-use Rattle.record.specs.Record.{Fits, record_bits}
-use Rattle.strip.specs.Bits.{record_at}
-use Rattle.strip.specs.Strip.{records_from, records_of, count_of}
-use Rattle.listing.specs.Listing.{line_of, size_of}
-use Rattle.text.specs.Text.{bad_tail, listed}
-use Rattle.text.proofs.HeaderLaws.{header_length, length-header, length-bad_tail}
-use Rattle.strip.proofs.PackedLaws.{record_fits}
-use Rattle.text.proofs.ListLaws.{lines_left, all_left, next_size, next_put, none_left, text_size, good_size, bad-size, head_put, good_put, bad-put}
+use lib.Seq.{sets}
+use Rattle.record.specs.Record.{record_bits}
+use Rattle.strip.specs.Strip.{records_from}
+use Rattle.text.specs.Text.{listed}
+use Rattle.text.proofs.HeaderLaws.{header_length}
+use Rattle.text.proofs.ListLaws.{lines_left}
 use Rattle.text.proofs.inner.put_text.Given as goal
 
 abbrev pub invariant-loop-i : goal.invariant-loop-i

@@ -2,20 +2,19 @@
 -- (`next_size`). Assumes nothing.
 use mathlib.Core.Path.{◌≡◌, sym, ap, ◌∙◌, subst}
 use mathlib.Core.List.{List}
-use Prim.Native.Nat.{ℕ, ◌+◌, ◌-◌, ◌*◌, ◌≤◌}
+use Prim.Native.Nat.{ℕ, ◌+◌, ◌≤◌}
 use lib.ListN.{length}
 use native.Mathlib.Omega.{arith}
 use Rattle.record.specs.declared.Record.{Record}
-use Rattle.record.specs.Record.{Fits, record_bits}
+use Rattle.record.specs.Record.{Fits}
 use Rattle.strip.specs.Bits.{record_at}
-use Rattle.strip.specs.Strip.{records_from, records_of}
+use Rattle.strip.specs.Strip.{records_of}
 use Rattle.listing.specs.Listing.{size_of}
 use Rattle.listing.proofs.PieceLaws.{size_few}
 use Rattle.text.specs.Text.{listed}
 use Rattle.text.proofs.HeaderLaws.{header_length, bad_tail_length}
 use Rattle.strip.proofs.PackedLaws.{record_fits}
-use Rattle.text.proofs.ListLaws.{lines_left, all_left, next_size, none_left, good_size, bad-size}
-use Rattle.std.proofs.Common.{rules}
+use Rattle.text.proofs.ListLaws.{all_left, next_size, none_left, good_size, bad-size}
 use Rattle.text.proofs.inner.text_size.Goals as goal
 use Rattle.text.proofs.inner.text_size.Goals.{After-line_size-size, Else-tail_good, Then-tail_good}
 

@@ -4,7 +4,6 @@ use mathlib.Core.Bool.{and-false}
 use borrow.Author.Tests.{lt-ltb, le-ltb, eq-eqb, ne_eqb}
 use Rattle.bits.specs.Refusals.{or_else, first_refusal}
 use Rattle.vetting.specs.Verdicts.{rule_broken}
-use Rattle.std.proofs.Common.{rules}
 use Rattle.vetting.proofs.inner.rule_broken.Goals as goal
 
 pub returns-then-date-above : goal.returns-then-date-above

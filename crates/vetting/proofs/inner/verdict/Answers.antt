@@ -1,6 +1,6 @@
 -- `verdict` meets its contract: the verdict on the records still to come, below the last one's date, is that on all (`next_verdict`).
 -- Assumes nothing.
-use Prim.Native.Nat.{ℕ, ◌+◌, ◌-◌, ◌*◌, ◌/◌, ◌≤◌}
+use Prim.Native.Nat.{ℕ, ◌+◌, ◌-◌, ◌*◌, ◌/◌}
 use mathlib.Core.Path.{◌≡◌, sym, ap, ◌∙◌}
 use mathlib.Core.Bool.{Bool, cond}
 use native.Mathlib.Nat.{sub-zero}
@@ -15,7 +15,6 @@ use Rattle.vetting.specs.declared.Verdict.{Verdict}
 use Rattle.vetting.specs.declared.Verdict.TheVariants.{Fine, Broken, BadTail}
 use Rattle.vetting.specs.Verdicts.{rule_broken, verdict_from}
 use Rattle.vetting.proofs.VerdictLaws.{rule_in, date_in, next_verdict, last_verdict}
-use Rattle.std.proofs.Common.{rules}
 use Rattle.vetting.proofs.inner.verdict.Goals as goal
 use Rattle.vetting.proofs.inner.verdict.Goals.{Else-rule-ne0, Else-tail_good, Then-rule-ne0, Then-tail_good}
 

@@ -1,20 +1,11 @@
 -- `verdict` meets its contract: the verdict on the records still to come, below the last one's date, is that on all (`next_verdict`).
 -- Assumes nothing.
-use Prim.Native.Nat.{ℕ, ◌+◌, ◌-◌, ◌*◌, ◌/◌, ◌≤◌}
-use mathlib.Core.Path.{◌≡◌, sym, ap, ◌∙◌}
-use mathlib.Core.Bool.{Bool, cond}
-use native.Mathlib.Nat.{sub-zero}
-use native.Mathlib.Omega.{arith}
+use Prim.Native.Nat.{◌+◌, ◌-◌, ◌*◌, ◌≤◌}
+use mathlib.Core.Path.{◌≡◌}
 use lib.ListN.{length}
-use Rattle.bits.specs.Refusals.{if_done}
-use Rattle.bits.proofs.RefusalLaws.{if_refused, if_done_lem}
 use Rattle.record.specs.Record.{record_bits}
-use Rattle.strip.specs.Bits.{record_at}
 use Rattle.strip.specs.Strip.{records_from, tail_good}
-use Rattle.vetting.specs.declared.Verdict.{Verdict}
-use Rattle.vetting.specs.declared.Verdict.TheVariants.{Fine, Broken, BadTail}
-use Rattle.vetting.specs.Verdicts.{rule_broken, verdict_from}
-use Rattle.vetting.proofs.VerdictLaws.{rule_in, date_in, next_verdict, last_verdict}
+use Rattle.vetting.specs.Verdicts.{verdict_from}
 use Rattle.vetting.proofs.inner.verdict.Given as goal
 
 abbrev pub invariant-loop-i : goal.invariant-loop-i

@@ -6,7 +6,6 @@ use Rattle.packing.proofs.BelongsLaws.{refusal_belongs}
 use Rattle.writer.specs.Writer.{writer_refusal}
 use Rattle.writer.specs.Answers.{flush_of, flush_out}
 use Rattle.writer.proofs.AnswerLaws.{refused, answered}
-use Rattle.std.proofs.Common.{rules}
 use Rattle.writer.proofs.Writer.flush.Goals as goal
 use Rattle.writer.proofs.Writer.flush.Goals.{After-flush-arg-1, After-slice_known-then-refusal-eq-DONE-1, Else-refusal-eq-DONE}
 

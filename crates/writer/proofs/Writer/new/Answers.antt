@@ -1,7 +1,6 @@
 -- `Writer::new` meets its contract: its test is that of `new_of`. Assumes nothing.
 use borrow.Author.Tests.{lt-ltb, le-ltb}
 use Rattle.writer.specs.Answers.{new_of}
-use Rattle.std.proofs.Common.{rules}
 use Rattle.writer.proofs.Writer.new.Goals as goal
 
 pub returns-then-out-gt-LONGEST : goal.returns-then-out-gt-LONGEST

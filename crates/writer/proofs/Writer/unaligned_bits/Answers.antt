@@ -5,7 +5,6 @@ use lib.ListN.{length}
 use Rattle.packing.specs.Packing.{state_refusal}
 use Rattle.writer.specs.Writer.{writer_refusal}
 use Rattle.writer.specs.Answers.{unaligned_of}
-use Rattle.std.proofs.Common.{rules}
 use Rattle.writer.proofs.Writer.unaligned_bits.Goals as goal
 use Rattle.writer.proofs.Writer.unaligned_bits.Goals.{Else-refusal-ne-DONE, Then-refusal-ne-DONE}
 

@@ -3,7 +3,6 @@ use mathlib.Core.Path.{◌≡◌, refl}
 use mathlib.Core.Bool.{Bool, true, false, cond}
 use Prim.Native.Nat.{ℕ}
 use mir.Val.{bool_byte}
-use Rattle.std.proofs.Common.{rules}
 use Rattle.writer.proofs.Writer.write_bit.Goals as goal
 
 as_number : (b : Bool) → cond {A = ℕ} b 1 0 ≡ bool_byte b

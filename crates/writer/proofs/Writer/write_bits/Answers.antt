@@ -9,7 +9,6 @@ use Rattle.bits.specs.Refusals.{done}
 use Rattle.writer.specs.Writer.{write_refusal}
 use Rattle.writer.specs.Answers.{write_of, write_out}
 use Rattle.writer.proofs.AnswerLaws.{Room, write_passed, write_fits, write_nothing, refused, answered}
-use Rattle.std.proofs.Common.{rules}
 use Rattle.writer.proofs.Writer.write_bits.Goals as goal
 use Rattle.writer.proofs.Writer.write_bits.Goals.{After-state_in, After-writer_with-self, Else-bits-ne0}
 

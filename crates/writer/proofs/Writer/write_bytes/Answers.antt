@@ -3,7 +3,6 @@ use mathlib.Core.Path.{sym, ◌∙◌}
 use lib.ListN.{length}
 use Rattle.writer.specs.Answers.{bytes_of, bytes_out}
 use Rattle.writer.proofs.AnswerLaws.{bytes_passed, refused, answered}
-use Rattle.std.proofs.Common.{rules}
 use Rattle.writer.proofs.Writer.write_bytes.Goals as goal
 
 pub put_bytes-requires : goal.put_bytes-requires

@@ -1,7 +1,6 @@
 -- `Writer::write_f32` meets its contract: it answers its refusal, and the writer that came. Assumes nothing.
 use mathlib.Core.Path.{refl}
 use Rattle.writer.specs.Answers.{retired_of}
-use Rattle.std.proofs.Common.{rules}
 use Rattle.writer.proofs.Writer.write_f32.Goals as goal
 
 pub returns : goal.returns

@@ -1,5 +1,4 @@
 -- `Writer::write_f64` meets its contract: it is `write_bits` of the double's bits. Assumes nothing.
-use Rattle.std.proofs.Common.{rules}
 use Rattle.writer.proofs.Writer.write_f64.Goals as goal
 
 pub returns : goal.returns

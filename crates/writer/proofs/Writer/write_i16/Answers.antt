@@ -1,7 +1,6 @@
 -- `Writer::write_i16` meets its contract: the cast to 64 bits is defined and loses nothing. Assumes nothing.
 use mir.Syntax.{w16}
 use Rattle.sign.proofs.CastLaws.{widened}
-use Rattle.std.proofs.Common.{rules}
 use Rattle.writer.proofs.Writer.write_i16.Goals as goal
 
 pub overflow_cast-value : goal.overflow_cast-value

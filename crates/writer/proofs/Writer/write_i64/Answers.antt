@@ -1,7 +1,6 @@
 -- `Writer::write_i64` meets its contract: it is `write_signed_bits` at width 64. Assumes nothing.
 use mir.Syntax.{w64}
 use mir.ValLaws.{to_z-of_z}
-use Rattle.std.proofs.Common.{rules}
 use Rattle.writer.proofs.Writer.write_i64.Goals as goal
 
 pub returns : goal.returns

@@ -10,7 +10,6 @@ use Rattle.sign.proofs.SignedLaws.{pattern_lt, pattern_low}
 use Rattle.writer.specs.Writer.{signed_refusal}
 use Rattle.writer.specs.Answers.{signed_of, signed_out}
 use Rattle.writer.proofs.AnswerLaws.{Room, signed_passed, refused, answered}
-use Rattle.std.proofs.Common.{rules}
 use Rattle.writer.proofs.Writer.write_signed_bits.Goals as goal
 use Rattle.writer.proofs.Writer.write_signed_bits.Goals.{After-bits_of_signed, After-state_in, After-writer_with-self, Else-refusal-eq-DONE}
 

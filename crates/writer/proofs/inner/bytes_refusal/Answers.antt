@@ -6,7 +6,6 @@ use Rattle.bits.specs.Refusals.{or_else, first_refusal}
 use Rattle.packing.specs.Packing.{state_refusal}
 use Rattle.packing.proofs.BelongsLaws.{refusal_belongs}
 use Rattle.writer.specs.Writer.{writer_refusal, bytes_refusal}
-use Rattle.std.proofs.Common.{rules}
 use Rattle.writer.proofs.inner.bytes_refusal.Goals as goal
 use Rattle.writer.proofs.inner.bytes_refusal.Goals.{After-room_refusal, Else-refusal-ne-DONE, Then-refusal-ne-DONE}
 

@@ -5,7 +5,6 @@ use native.Mathlib.Omega.{arith}
 use lib.Pow.{pow-lt}
 use Rattle.writer.specs.Writer.{writer_with, padding}
 use Rattle.writer.proofs.AnswerLaws.{flush_nothing}
-use Rattle.std.proofs.Common.{rules}
 use Rattle.writer.proofs.inner.flush.Goals as goal
 
 pub put_bits-requires : goal.put_bits-requires

@@ -3,7 +3,6 @@ use Prim.Native.Nat.{◌+◌, ◌*◌, ◌<◌, ◌≤◌}
 use native.Mathlib.Omega.{arith}
 use borrow.Author.Tests.{lt-ltb, le-ltb}
 use Rattle.writer.specs.Writer.{bits_written}
-use Rattle.std.proofs.Common.{rules}
 use Rattle.writer.proofs.inner.room_refusal.Goals as goal
 
 pub returns-then-len-w : goal.returns-then-len-w

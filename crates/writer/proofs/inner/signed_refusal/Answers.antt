@@ -6,7 +6,6 @@ use Rattle.bits.specs.Refusals.{or_else, first_refusal}
 use Rattle.packing.specs.Packing.{state_refusal}
 use Rattle.packing.proofs.BelongsLaws.{refusal_belongs}
 use Rattle.writer.specs.Writer.{writer_refusal, signed_refusal}
-use Rattle.std.proofs.Common.{rules}
 use Rattle.writer.proofs.inner.signed_refusal.Goals as goal
 use Rattle.writer.proofs.inner.signed_refusal.Goals.{After-room_refusal, Else-bits-gt64, Then-bits-gt64, Then-refusal-ne-DONE}
 

@@ -6,7 +6,6 @@ use Rattle.bits.specs.Refusals.{or_else, first_refusal}
 use Rattle.packing.specs.Packing.{state_refusal}
 use Rattle.packing.proofs.BelongsLaws.{refusal_belongs}
 use Rattle.writer.specs.Writer.{writer_refusal, single_refusal}
-use Rattle.std.proofs.Common.{rules}
 use Rattle.writer.proofs.inner.single_refusal.Goals as goal
 use Rattle.writer.proofs.inner.single_refusal.Goals.{Else-refusal-ne-DONE, Else-room-ne-DONE, Then-refusal-ne-DONE, Then-room-ne-DONE}
 

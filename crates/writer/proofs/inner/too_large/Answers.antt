@@ -1,6 +1,5 @@
 -- `too_large` meets its contract: above the low n - 1 bits stands more than one bit (`large_test`). Assumes nothing.
 use Rattle.writer.proofs.WidthLaws.{large_test}
-use Rattle.std.proofs.Common.{rules}
 use Rattle.writer.proofs.inner.too_large.Goals as goal
 
 pub returns : goal.returns

@@ -7,7 +7,6 @@ use Rattle.bits.specs.Refusals.{or_else, first_refusal}
 use Rattle.packing.specs.Packing.{Belongs, state_refusal}
 use Rattle.packing.proofs.BelongsLaws.{refusal_belongs}
 use Rattle.writer.specs.Writer.{state_in, bits_written, writer_refusal, oversized, write_refusal}
-use Rattle.std.proofs.Common.{rules}
 use Rattle.writer.proofs.inner.write_refusal.Goals as goal
 use Rattle.writer.proofs.inner.write_refusal.Goals.{After-room_refusal, Else-too_large, Then-bits-eq0, Then-bits-gt64, Then-refusal-ne-DONE, Then-too_large}
 

@@ -1,10 +1,7 @@
 -- `at_field` and `in_wide` meet their contracts: each way on behind a take is one of TakeLaws, the loop keeps the check what it was at
 -- the start, and each call is on fewer steps. Assumes nothing.
-use Prim.Native.Nat.{ℕ, ◌-◌, ◌<◌, ◌≤◌}
-use mathlib.Core.Path.{◌≡◌, refl, sym, ◌∙◌}
+use mathlib.Core.Path.{refl, sym, ◌∙◌}
 use native.Mathlib.Omega.{arith}
-use lib.ListN.{length, drop}
-use Rattle.layout.specs.Check.{at_field}
 use Rattle.layout.proofs.CheckLaws.{at_end, wide_end, closed_on, closed-full}
 use Rattle.layout.specs.Take.{TakenAt}
 use Rattle.layout.proofs.TakeLaws.{field_next, field-full, field-wide, field_none}

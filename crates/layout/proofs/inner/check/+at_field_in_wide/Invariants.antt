@@ -1,12 +1,8 @@
 -- The loop keeps the plan check from its first step on.
-use Prim.Native.Nat.{ℕ, ◌-◌, ◌<◌, ◌≤◌}
-use mathlib.Core.Path.{◌≡◌, refl, sym, ◌∙◌}
-use native.Mathlib.Omega.{arith}
+use Prim.Native.Nat.{◌-◌, ◌≤◌}
+use mathlib.Core.Path.{◌≡◌}
 use lib.ListN.{length, drop}
 use Rattle.layout.specs.Check.{at_field}
-use Rattle.layout.proofs.CheckLaws.{at_end, wide_end, closed_on, closed-full}
-use Rattle.layout.specs.Take.{TakenAt}
-use Rattle.layout.proofs.TakeLaws.{field_next, field-full, field-wide, field_none}
 use Rattle.layout.proofs.inner.check.+at_field_in_wide.Given as goal
 
 abbrev pub decreases-at_field : goal.decreases-at_field

@@ -1,7 +1,6 @@
 -- `ends_wide` meets its contract: it tests the code by `ends`, and then the two bounds of the count. Assumes nothing.
 use mathlib.Core.Path.{sym, ◌∙◌}
 use borrow.Author.Tests.{le-leb, lt-leb}
-use Rattle.std.proofs.Common.{rules}
 use Rattle.layout.proofs.inner.check.ends_wide.Goals as goal
 
 pub returns-then-b-ge1 : goal.returns-then-b-ge1

@@ -1,6 +1,5 @@
 -- `fits` meets its contract: it tests the two bounds of the count one after the other. Assumes nothing.
 use borrow.Author.Tests.{le-leb, lt-leb}
-use Rattle.std.proofs.Common.{rules}
 use Rattle.layout.proofs.inner.check.fits.Goals as goal
 
 pub returns-then-low-n : goal.returns-then-low-n

@@ -4,7 +4,6 @@ use native.Mathlib.Omega.{arith}
 use Rattle.layout.specs.Check.{is_plan}
 use Rattle.bits.proofs.TestLaws.{by_test}
 use Rattle.layout.proofs.Theorems.{plan_length}
-use Rattle.std.proofs.Common.{rules}
 use Rattle.layout.proofs.inner.check.is_plan.Goals as goal
 
 pub returns-then-p-gt256 : goal.returns-then-p-gt256

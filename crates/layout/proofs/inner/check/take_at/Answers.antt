@@ -1,6 +1,5 @@
 -- `take_at` meets its contract: the step is a take, or a refill with a take behind it, or with none (TakeLaws). Assumes nothing.
 use Rattle.layout.proofs.TakeLaws.{taken_plain, taken_late, taken_none}
-use Rattle.std.proofs.Common.{rules}
 use Rattle.layout.proofs.inner.check.take_at.Goals as goal
 
 pub returns-then-i-p : goal.returns-then-i-p

@@ -2,7 +2,6 @@
 use mathlib.Core.Path.{sym, ◌∙◌}
 use native.Mathlib.Omega.{arith}
 use Rattle.layout.proofs.CheckLaws.{fits_of}
-use Rattle.std.proofs.Common.{rules}
 use Rattle.layout.proofs.inner.check.taken.Goals as goal
 
 pub overflow_sub-result : goal.overflow_sub-result

@@ -3,7 +3,6 @@ use Prim.Native.Nat.{ℕ}
 use mathlib.Core.Path.{◌≡◌}
 use native.Mathlib.Omega.{arith}
 use borrow.Author.Tests.{ltb-true}
-use Rattle.std.proofs.Common.{rules}
 use Rattle.layout.proofs.inner.check.wanted.Goals as goal
 
 pub returns-then-i-p : goal.returns-then-i-p

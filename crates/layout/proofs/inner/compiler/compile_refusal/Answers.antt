@@ -3,7 +3,6 @@ use mathlib.Core.Path.{sym, ◌∙◌}
 use borrow.Author.Tests.{lt-ltb, le-ltb}
 use Rattle.bits.specs.Refusals.{longest, or_else, first_refusal}
 use Rattle.layout.specs.Answers.{compile_refusal}
-use Rattle.std.proofs.Common.{rules}
 use Rattle.layout.proofs.inner.compiler.compile_refusal.Goals as goal
 
 pub returns-then-layout-gt-LONGEST : goal.returns-then-layout-gt-LONGEST

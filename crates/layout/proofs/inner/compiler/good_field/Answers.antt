@@ -1,6 +1,5 @@
 -- `good_field` meets its contract: it tests the kind and then the width. Assumes nothing.
 use borrow.Author.Tests.{le-leb, lt-leb}
-use Rattle.std.proofs.Common.{rules}
 use Rattle.layout.proofs.inner.compiler.good_field.Goals as goal
 
 pub returns-then-kind-le1 : goal.returns-then-kind-le1

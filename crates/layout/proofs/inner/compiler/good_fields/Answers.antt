@@ -1,12 +1,11 @@
 -- `good_fields` meets its contract: what is said of the fields from `i` on is what is said of all. Assumes nothing.
-use Prim.Native.Nat.{◌+◌, ◌-◌, ◌%◌, ◌≤◌}
+use Prim.Native.Nat.{◌+◌}
 use mathlib.Core.Path.{◌≡◌, refl, sym, ◌∙◌}
 use native.Mathlib.Omega.{arith}
 use mathlib.Core.Bool.{◌&&◌}
-use lib.ListN.{length, drop}
+use lib.ListN.{drop}
 use Rattle.layout.specs.Layout.{items_of, good_items}
 use Rattle.layout.proofs.LayoutLaws.{good_at, good_end}
-use Rattle.std.proofs.Common.{rules}
 use Rattle.layout.proofs.inner.compiler.good_fields.Goals as goal
 use Rattle.layout.proofs.inner.compiler.good_fields.Goals.{Else-good_field, Then-good_field}
 

@@ -1,11 +1,8 @@
 -- `good_fields` meets its contract: what is said of the fields from `i` on is what is said of all. Assumes nothing.
-use Prim.Native.Nat.{◌+◌, ◌-◌, ◌%◌, ◌≤◌}
-use mathlib.Core.Path.{◌≡◌, refl, sym, ◌∙◌}
-use native.Mathlib.Omega.{arith}
-use mathlib.Core.Bool.{◌&&◌}
+use Prim.Native.Nat.{◌-◌, ◌%◌, ◌≤◌}
+use mathlib.Core.Path.{◌≡◌}
 use lib.ListN.{length, drop}
 use Rattle.layout.specs.Layout.{items_of, good_items}
-use Rattle.layout.proofs.LayoutLaws.{good_at, good_end}
 use Rattle.layout.proofs.inner.compiler.good_fields.Given as goal
 
 abbrev pub invariant-loop-i : goal.invariant-loop-i

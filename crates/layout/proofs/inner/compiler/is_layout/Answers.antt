@@ -1,7 +1,6 @@
 -- `is_layout` meets its contract: 128 bytes are 64 fields. Assumes nothing.
 use mathlib.Core.Path.{sym, ◌∙◌}
 use Rattle.layout.proofs.LayoutLaws.{is_layout_odd, is_layout_long, is_layout_good}
-use Rattle.std.proofs.Common.{rules}
 use Rattle.layout.proofs.inner.compiler.is_layout.Goals as goal
 
 pub returns-then-layout-le128 : goal.returns-then-layout-le128

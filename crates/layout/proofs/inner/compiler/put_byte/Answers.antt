@@ -1,7 +1,6 @@
 -- `put_byte` meets its contract: a store past the end changes nothing. Assumes nothing.
 use mathlib.Core.Path.{sym}
 use lib.Seq.{set_out}
-use Rattle.std.proofs.Common.{rules}
 use Rattle.layout.proofs.inner.compiler.put_byte.Goals as goal
 
 pub returns-else-at-out : goal.returns-else-at-out

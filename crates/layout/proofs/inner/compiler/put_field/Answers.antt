@@ -6,7 +6,6 @@ use Rattle.layout.specs.Known.{known}
 use Rattle.layout.proofs.SeamLaws.{after-le}
 use Rattle.layout.proofs.CompileLaws.{length-refilled}
 use Rattle.layout.proofs.Puts.{Wrote, wrote-append, takes_narrow, takes_broad}
-use Rattle.std.proofs.Common.{rules}
 use Rattle.layout.proofs.inner.compiler.put_field.Goals as goal
 
 pub returns-then-width-le56 : goal.returns-then-width-le56

@@ -5,7 +5,6 @@ use native.Mathlib.Numerals.{add-one}
 use native.Mathlib.Omega.{arith}
 use Rattle.layout.specs.Plan.{count}
 use Rattle.layout.proofs.SeamLaws.{refilled_short, after_short, refilled-enough, after-enough}
-use Rattle.std.proofs.Common.{rules}
 use Rattle.layout.proofs.inner.compiler.put_take.Goals as goal
 
 pub returns-then-g-n : goal.returns-then-g-n

@@ -1,6 +1,5 @@
 -- `ended` meets its contract: it answers by what `ends` ensures. Assumes nothing.
 use mathlib.Core.Path.{sym, ◌∙◌}
-use Rattle.std.proofs.Common.{rules}
 use Rattle.layout.proofs.inner.size.ended.Goals as goal
 
 pub returns-then-ends : goal.returns-then-ends

@@ -1,13 +1,10 @@
 -- `measure` meets its contract: what was counted and what is left to count are all, and a plan is short. Assumes nothing.
-use Prim.Native.Nat.{◌+◌, ◌-◌, ◌≤◌}
 use mathlib.Core.Path.{◌≡◌, ◌∙◌}
 use native.Mathlib.Nat.{zero-add}
 use native.Mathlib.Omega.{arith}
-use lib.ListN.{length, drop}
 use Rattle.layout.specs.Steps.{total, ended}
 use Rattle.layout.proofs.SizeLaws.{total_at, ended_at, total_end, ended_end, total-le, ended-le, plan_ended, plan_total}
 use Rattle.layout.proofs.Theorems.{plan_length}
-use Rattle.std.proofs.Common.{rules}
 use Rattle.layout.proofs.inner.size.measure.Goals as goal
 
 pub loop-i-init : goal.loop-i-init

@@ -4,7 +4,6 @@ use native.Mathlib.Omega.{arith}
 use lib.Dec.{ltb}
 use borrow.Author.Tests.{le-leb, lt-leb, ltb-true, ltb-false}
 use Rattle.bits.proofs.TestLaws.{by_test}
-use Rattle.std.proofs.Common.{rules}
 use Rattle.layout.proofs.inner.steps.ends.Goals as goal
 
 pub returns-then-b-ge64 : goal.returns-then-b-ge64
