@@ -1,7 +1,6 @@
 // Reading standard input, writing standard output, and telling on standard error where either fails.
 ghost use Rattle.std.specs.Prelude.{◌≤◌, length};
 
-use std::io;
 use std::io::Read;
 
 // How many bytes were read, and whether a read failed.
@@ -12,13 +11,12 @@ pub struct Input {
 }
 
 // Reads standard input until it ends, the buffer is full, or a read fails.
-pub fn read_input(rt: &impl io::Input, buf: &mut [u8]) -> Input
+pub fn read_input(stdin: &mut impl Read, buf: &mut [u8]) -> Input
     ensures { result.count ≤ length buf.old }
 {
-    let mut reader = rt.reader();
     let mut done = 0;
     while done < buf.len() {
-        let Ok(n) = reader.read(&mut buf[done..]) else {
+        let Ok(n) = stdin.read(&mut buf[done..]) else {
             return Input {
                 count: done,
                 failed: true,

@@ -2,5 +2,5 @@
 #![tactic(auto)]
 
 fn main(rt: HostRuntime) {
-    script_calls::program::run(&rt);
+    script_calls::program::run(&mut rt.stdin(), &rt);
 }

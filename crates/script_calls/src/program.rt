@@ -4,18 +4,19 @@ ghost use Rattle.std.specs.Prelude.{◌≤◌, ◌+◌, length};
 use crate::{Done, Machine};
 use script_words::inner as spelling;
 use script_words::inner::Line;
+use std::io::Read;
 
 // Answers are written once they take so many of the 65,536 bytes kept for them; the longest answer line has some 8,300.
 const MANY: usize = 49152;
 
 // Reads a script, runs its lines one after the other, and writes the answers.
-pub fn run(rt: &(impl Input + Print)) {
+pub fn run(stdin: &mut impl Read, rt: &impl Print) {
     let mut space = [0u8; 262144];
     let mut src = [0u8; 4096];
     let mut out = [0u8; 4096];
     let mut buf = [0u8; 4096];
     let mut lines = [0u8; 65536];
-    let n = programs::inner::read_input(rt, &mut space).count;
+    let n = programs::inner::read_input(stdin, &mut space).count;
     answer(rt, &space[..n], &mut src, &mut out, &mut buf, &mut lines);
 }
 

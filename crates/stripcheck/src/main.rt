@@ -8,7 +8,7 @@ use programs::inner::Input;
 
 fn main(rt: HostRuntime) {
     let mut space = [0u8; 65537];
-    let input = programs::inner::read_input(&rt, &mut space);
+    let input = programs::inner::read_input(&mut rt.stdin(), &mut space);
     if input.failed {
         programs::inner::tell_unread(&rt);
         return;
