@@ -1,6 +1,6 @@
 /* Reads one record of a strip and prints its six numbers, then its line as ./strip lists it. On x86-64 Linux, from the repository's folder:
  *
- *     rt staticlib host && cc examples/read_record.c -Iinclude target/staticlib/libhost.a -o target/read_record && target/read_record
+ *     tests/archive host && cc examples/read_record.c -Iinclude target/staticlib/libhost.a -o target/read_record && target/read_record
  */
 #include <stdio.h>
 

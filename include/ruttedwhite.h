@@ -2,7 +2,7 @@
  *
  * The kit proves the library and makes an archive of it, which needs no other library. From the repository's folder:
  *
- *     rt staticlib host
+ *     tests/archive host
  *     cc examples/read_record.c -Iinclude target/staticlib/libhost.a -o target/read_record
  *
  * The archive is for x86-64 Linux alone. Elsewhere read a strip by the words of docs/FORMAT.md, as examples/strip.py does.

@@ -1,5 +1,4 @@
 -- `reads_little` is safe: the buffer keeps its length, and the count of times goes down. Assumes nothing.
-use Prim.Native.Nat.{◌-◌}
 use mathlib.Core.Path.{◌≡◌}
 use lib.ListN.{length}
 use Rattle.bench.proofs.bytes.reads_little.Given as goal

@@ -1,5 +1,4 @@
 -- `writes_little` is safe: the output keeps its length, and the count of times goes down. Assumes nothing.
-use Prim.Native.Nat.{◌-◌}
 use mathlib.Core.Path.{◌≡◌}
 use lib.ListN.{length}
 use Rattle.bench.proofs.bytes.writes_little.Given as goal

@@ -14,7 +14,6 @@ use Rattle.layout.proofs.Theorems.{plan_layout, bytes_items, bytes_layout}
 use Rattle.plan.specs.Run.{fields_of}
 use Rattle.plan.proofs.RunLaws.{plan_few}
 use Rattle.bits.proofs.StoreLaws.{front_take}
-use Rattle.std.proofs.Common.{rules}
 use Rattle.bench.proofs.plans.fields.Goals as goal
 use Rattle.bench.proofs.plans.fields.Goals.{After-over-arg-1, After-space-1, After-space-then-is_plan-1, After-space-then-is_plan-2-1, Then-is_plan}
 

@@ -1,5 +1,4 @@
 -- `runs_big` is safe: the results keep their length, and the count goes down. Assumes nothing.
-use Prim.Native.Nat.{◌-◌}
 use mathlib.Core.Path.{◌≡◌}
 use lib.ListN.{length}
 use Rattle.bench.proofs.plans.runs_big.Given as goal

@@ -1,5 +1,5 @@
 -- `fixed_big` is safe: the count goes down. Assumes nothing.
-use Prim.Native.Nat.{◌-◌, ◌≤◌}
+use Prim.Native.Nat.{◌≤◌}
 use Rattle.bench.proofs.reads.fixed_big.Given as goal
 
 abbrev pub invariant-loop-left : goal.invariant-loop-left

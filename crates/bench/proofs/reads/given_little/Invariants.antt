@@ -1,5 +1,5 @@
 -- `given_little` is safe: the count goes down. Assumes nothing.
-use Prim.Native.Nat.{◌-◌, ◌≤◌}
+use Prim.Native.Nat.{◌≤◌}
 use Rattle.bench.proofs.reads.given_little.Given as goal
 
 abbrev pub invariant-loop-left : goal.invariant-loop-left

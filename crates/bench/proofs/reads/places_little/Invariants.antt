@@ -1,5 +1,5 @@
 -- `places_little` is safe: 38 bits lie behind the place for each field to come. Assumes nothing.
-use Prim.Native.Nat.{◌+◌, ◌-◌, ◌*◌, ◌≤◌}
+use Prim.Native.Nat.{◌+◌, ◌*◌, ◌≤◌}
 use lib.ListN.{length}
 use Rattle.bench.proofs.reads.places_little.Given as goal
 
