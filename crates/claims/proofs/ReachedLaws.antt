@@ -72,7 +72,7 @@ module _ (s : List ℕ) where
   unfolding W.new_of W.retired_of W.bytes_of W.flush_of S.pack_of
   all_kept Made.new = (omega arith, λ short. belongs_refusal _ _ (new_belongs (length s) short))
   all_kept (Made.write_bits {w} r o n v) = write_kept w (all_kept r) o n v
-  all_kept (Made.write_signed-bits {w} r o n x) = signed_kept w (all_kept r) o n x
+  all_kept (Made.write_signed_bits {w} r o n x) = signed_kept w (all_kept r) o n x
   all_kept (Made.write_f32 r) = all_kept r
   all_kept (Made.write_bytes {w} r o bs small) = if_holds (Kept (length s)) _ _ _ (all_kept r) (λ z. belongs_kept (bytes_stored o s w bs small z).belongs)
   all_kept (Made.flush {w} r o) = if_holds (Kept (length s)) _ _ _ (all_kept r) (λ z. belongs_kept (flush_stored o s w z).belongs)

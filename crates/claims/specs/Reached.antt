@@ -18,11 +18,11 @@ use Rattle.record.specs.declared.Record.{Record}
 use Rattle.strip.specs.Answers as S
 
 -- the writers of an output of len bytes, whatever these hold at each call; a fixed width, a bit and a double are `write_bits` or
--- `write_signed-bits` at their width
+-- `write_signed_bits` at their width
 pub data Reached (len : ℕ) : Writer → Type 0 where
   new : Reached len (W.new_of len).writer
   write_bits : {w : Writer} → Reached len w → (o : Order) (n v : ℕ) → Reached len (W.write_of o len w n v).writer
-  write_signed-bits : {w : Writer} → Reached len w → (o : Order) (n : ℕ) (z : ℤ) → Reached len (W.signed_of o len w n z).writer
+  write_signed_bits : {w : Writer} → Reached len w → (o : Order) (n : ℕ) (z : ℤ) → Reached len (W.signed_of o len w n z).writer
   write_f32 : {w : Writer} → Reached len w → Reached len (W.retired_of len w).writer
   write_bytes : {w : Writer} → Reached len w → (o : Order) (bs : List ℕ) → ((i : ℕ) → get_or bs i 0 < 256) → Reached len (W.bytes_of o len w bs).writer
   flush : {w : Writer} → Reached len w → (o : Order) → Reached len (W.flush_of o len w).writer
