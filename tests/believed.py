@@ -1,7 +1,7 @@
 #!/usr/bin/env python3
 """Counts the lines that a reader has to believe: the equations and data types of specs/ that the contracts of public functions and the
-sentences of claims/specs/Claims.antt and Ends.antt reach, with whatever these reach. Comments, blank lines and imports are not counted, and the types
-of definitions, which the check reads, are counted apart.
+sentences of claims/specs/Claims.antt and Ends.antt reach, with whatever these reach, and the structs and enums of src/ that specs/ speaks of. Comments,
+blank lines and imports are not counted, and the types of definitions, which the check reads, are counted apart.
 
   tests/believed.py            how many, by crate
   tests/believed.py --names    each definition too
@@ -114,10 +114,22 @@ for key in sorted(reached, key=lambda k: k[2]):
     count[key[0]] += len(lines_of[key]) - types(lines_of[key])
     if '--names' in sys.argv:
         print(f'{key[0]}/{key[1]}: {lines_of[key][0]}')
+# the types of the code
+declared = set()
+for path in glob.glob('crates/*/specs/*.antt'):
+    declared |= set(re.findall(r'Rattle\.(\w+)\.specs\.declared\.(\w+)\.', open(path, encoding='utf-8').read()))
+code = 0
+for path in sorted(glob.glob('crates/*/src/**/*.rt', recursive=True)):
+    text = open(path, encoding='utf-8').read()
+    for name, fields in re.findall(r'^pub (?:struct|enum) (\w+)(?:<[^>]*>)? \{\n(.*?)^\}', text, re.M | re.S):
+        if (path.split('/')[1], name) in declared:
+            code += 1 + fields.count('\n')
 claims = count.pop('claims', 0) + typed.pop('claims', 0)
 for crate in sorted(count):
     print(f'{count[crate]:5} {crate}')
-print(f'{sum(count.values()):5} lines of equations and data types ({sum(typed.values())} more say the types of definitions)')
+print(f'{code:5} types of the code')
+total = sum(count.values()) + code
+print(f'{total:5} lines of equations and data types ({sum(typed.values())} more say the types of definitions)')
 print(f'{claims:5} lines of sentences in claims; {contracts} lines of contracts of public functions cite the definitions')
-if '--most' in sys.argv and sum(count.values()) > int(sys.argv[sys.argv.index('--most') + 1]):
+if '--most' in sys.argv and total > int(sys.argv[sys.argv.index('--most') + 1]):
     sys.exit('believed: more than that')

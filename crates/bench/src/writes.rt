@@ -1,164 +1,55 @@
-// Fields written one behind the other; order and width stand in the calls.
-use bits::{Order, refusals};
-use writer::{Writer, Wrote};
+// Fields written one behind the other; the order is a constant of each loop, and the width stands in the call.
+use crate::{blank, order};
+use bits::{Order, Refusal};
+use writer::Writer;
 
 // The values as fields of 38 bits by the public call; the answer is how many bytes are full.
-pub fn fixed_big(out: &mut [u8], values: &[u64]) -> u64 {
-    let mut writer = Writer {
-        written: 0,
-        held: 0,
-        number: 0,
-    };
-    let mut i = 0;
-    while i < values.len() {
-        let wrote = writer.write_bits(Order::Big, out, 38, values[i]);
-        if wrote.refusal != refusals::DONE {
-            return 0;
-        }
-        writer = wrote.writer;
-        i += 1;
-    }
-    let last = writer.flush(Order::Big, out);
-    let end = last.writer;
-    end.written as u64
-}
-
-pub fn fixed_little(out: &mut [u8], values: &[u64]) -> u64 {
-    let mut writer = Writer {
-        written: 0,
-        held: 0,
-        number: 0,
-    };
-    let mut i = 0;
-    while i < values.len() {
-        let wrote = writer.write_bits(Order::Little, out, 38, values[i]);
-        if wrote.refusal != refusals::DONE {
-            return 0;
-        }
-        writer = wrote.writer;
-        i += 1;
-    }
-    let last = writer.flush(Order::Little, out);
-    let end = last.writer;
-    end.written as u64
+pub fn fixed<const BIG: bool>(out: &mut [u8], values: &[u64]) -> u64 {
+    given::<BIG>(out, 38, values)
 }
 
 // The same of a width that is handed in.
-pub fn given_big(out: &mut [u8], w: u32, values: &[u64]) -> u64 {
-    let mut writer = Writer {
-        written: 0,
-        held: 0,
-        number: 0,
-    };
-    let mut i = 0;
-    while i < values.len() {
-        let wrote = writer.write_bits(Order::Big, out, w, values[i]);
-        if wrote.refusal != refusals::DONE {
+#[inline(always)]
+pub fn given<const BIG: bool>(out: &mut [u8], w: u32, values: &[u64]) -> u64 {
+    let mut writer = blank();
+    for value in values {
+        let Ok(next) = writer.write_bits(order(BIG), out, w, *value) else {
             return 0;
-        }
-        writer = wrote.writer;
-        i += 1;
+        };
+        writer = next;
     }
-    let last = writer.flush(Order::Big, out);
-    let end = last.writer;
-    end.written as u64
-}
-
-pub fn given_little(out: &mut [u8], w: u32, values: &[u64]) -> u64 {
-    let mut writer = Writer {
-        written: 0,
-        held: 0,
-        number: 0,
-    };
-    let mut i = 0;
-    while i < values.len() {
-        let wrote = writer.write_bits(Order::Little, out, w, values[i]);
-        if wrote.refusal != refusals::DONE {
-            return 0;
-        }
-        writer = wrote.writer;
-        i += 1;
-    }
-    let last = writer.flush(Order::Little, out);
-    let end = last.writer;
+    let end = writer.flush(order(BIG), out).unwrap_or(writer);
     end.written as u64
 }
 
 // The first three numbers of a record, one call each.
-fn front(writer: Writer, out: &mut [u8], star: u64, date: u64, limit: u64) -> Wrote {
-    let a = writer.write_bits(Order::Big, out, 20, star);
-    let x = a.writer;
-    if a.refusal != refusals::DONE {
-        return a;
-    }
-    let b = x.write_bits(Order::Big, out, 38, date);
-    let y = b.writer;
-    if b.refusal != refusals::DONE {
-        return b;
-    }
-    y.write_bits(Order::Big, out, 1, limit)
+fn front(writer: Writer, out: &mut [u8], numbers: [u64; 3]) -> Result<Writer, Refusal> {
+    let [star, date, limit] = numbers;
+    let writer = writer.write_bits(Order::Big, out, 20, star)?;
+    let writer = writer.write_bits(Order::Big, out, 38, date)?;
+    writer.write_bits(Order::Big, out, 1, limit)
 }
 
 // The last three.
-fn back(writer: Writer, out: &mut [u8], magnitude: u64, error: u64, filter: u64) -> Wrote {
-    let a = writer.write_bits(Order::Big, out, 16, magnitude);
-    let x = a.writer;
-    if a.refusal != refusals::DONE {
-        return a;
-    }
-    let b = x.write_bits(Order::Big, out, 10, error);
-    let y = b.writer;
-    if b.refusal != refusals::DONE {
-        return b;
-    }
-    y.write_bits(Order::Big, out, 4, filter)
-}
-
-// The six numbers of a record.
-fn record(
-    writer: Writer,
-    out: &mut [u8],
-    star: u64,
-    date: u64,
-    limit: u64,
-    magnitude: u64,
-    error: u64,
-    filter: u64,
-) -> Wrote {
-    let a = front(writer, out, star, date, limit);
-    let middle = a.writer;
-    if a.refusal != refusals::DONE {
-        return a;
-    }
-    back(middle, out, magnitude, error, filter)
+fn back(writer: Writer, out: &mut [u8], numbers: [u64; 3]) -> Result<Writer, Refusal> {
+    let [magnitude, error, filter] = numbers;
+    let writer = writer.write_bits(Order::Big, out, 16, magnitude)?;
+    let writer = writer.write_bits(Order::Big, out, 10, error)?;
+    writer.write_bits(Order::Big, out, 4, filter)
 }
 
 // Records of six numbers, six calls each.
 pub fn records(out: &mut [u8], numbers: &[u64]) -> u64 {
-    let mut writer = Writer {
-        written: 0,
-        held: 0,
-        number: 0,
-    };
-    let mut at = 0;
-    while 6 <= numbers.len() - at {
-        let wrote = record(
-            writer,
-            out,
-            numbers[at],
-            numbers[at + 1],
-            numbers[at + 2],
-            numbers[at + 3] % 0x1_0000,
-            numbers[at + 4],
-            numbers[at + 5],
-        );
-        if wrote.refusal != refusals::DONE {
+    let mut writer = blank();
+    for six in numbers.chunks_exact(6) {
+        let Ok(middle) = front(writer, out, [six[0], six[1], six[2]]) else {
             return 0;
-        }
-        writer = wrote.writer;
-        at += 6;
+        };
+        let Ok(next) = back(middle, out, [six[3] % 0x1_0000, six[4], six[5]]) else {
+            return 0;
+        };
+        writer = next;
     }
-    let last = writer.flush(Order::Big, out);
-    let end = last.writer;
+    let end = writer.flush(Order::Big, out).unwrap_or(writer);
     end.written as u64
 }

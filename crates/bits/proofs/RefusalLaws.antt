@@ -1,13 +1,19 @@
 -- Laws of refusals that come one after the other, and of tables of them.
 use Prim.Native.Nat.{ℕ, suc, ◌≤◌}
-use mathlib.Core.Path.{◌≡◌, refl, sym, ◌∙◌, subst}
+use mathlib.Core.Path.{◌≡◌, refl, sym, ap, ◌∙◌, subst}
 use mathlib.Core.Bool.{Bool, true, false, cond, not}
 use mathlib.Core.List.{List, [], ◌∷◌}
 use lib.Dec.{eqb, ltb}
 use native.Mathlib.Omega.{arith}
 use borrow.Author.Tests.{eqb-true, eqb-false, eq-eqb, ne_eqb, ltb-false}
 use Rattle.bits.proofs.TestLaws.{by_test}
-use Rattle.bits.specs.Refusals.{done, or_else, ◌⟶◌, first_refusal, if_done}
+use Rattle.std.specs.Prelude.{Result, Ok, Err}
+use Rattle.std.specs.Result.{IsErrAnd}
+use Rattle.std.proofs.lemmas.Result.{err_from_is_err_and}
+use Rattle.bits.specs.declared.Refusal.{Refusal}
+use Rattle.bits.specs.declared.Refusal.TheVariants as why
+use Rattle.bits.specs.Refusals.{done, or_else, ◌⟶◌, first_refusal, if_done, number}
+use Rattle.bits.specs.Refusals as N
 
 module _ (a b : ℕ) where
   -- the first refusal wins
@@ -94,6 +100,79 @@ refused_by (e ∷ f ∷ es) h = by (eqb e done) refl (refused_by (f ∷ es))
         let q = or_else_second e (first_refusal (f ∷ es)) z in
         subst (Refused (e ∷ f ∷ es)) (sym q) (later z (others (λ y. h (q ∙ y))))
     by false p others = let z = eqb-false e done p in subst (Refused (e ∷ f ∷ es)) (sym (or_else-first e (first_refusal (f ∷ es)) z)) (here z)
+
+-- ---- outcomes
+
+-- no refusal has the number of what is done
+pub number_ne : (e : Refusal) → number e ≡ done → ⊥
+number_ne why.TooLong z = omega arith
+number_ne why.Foreign z = omega arith
+number_ne why.TooWide z = omega arith
+number_ne why.TooLarge z = omega arith
+number_ne why.BadLayout z = omega arith
+number_ne why.BadPlan z = omega arith
+number_ne why.BadLine z = omega arith
+number_ne why.NoRoom z = omega arith
+number_ne why.TooFew z = omega arith
+number_ne why.PastLookahead z = omega arith
+number_ne why.BadRow z = omega arith
+number_ne why.BadEnd z = omega arith
+number_ne why.EndInByte z = omega arith
+number_ne why.RetiredKind z = omega arith
+
+-- a `?` hands the refusal on as it is
+pub handed_on : {A : Type 0} (r : Result A Refusal) (e : Refusal) → IsErrAnd r (λ y. y ≡ e) → r ≡ Err e
+handed_on r e h = let p = err_from_is_err_and r h in p.1 ∙ ap Err p.2
+
+-- where it hands on what the first row of a table refuses, the table refuses so
+pub first_handed : {A : Type 0} (r : Result A Refusal) (e : Refusal) (f g : ℕ) (es : List ℕ) → IsErrAnd r (λ y. y ≡ e) → number e ≡ f → N.number_of r ≡ first_refusal (f ∷ g ∷ es)
+unfolding first_refusal
+first_handed r e f g es h p = ap N.number_of (handed_on r e h) ∙ p ∙ sym (or_else-first f (first_refusal (g ∷ es)) (λ z. number_ne e (p ∙ z)))
+
+-- where it hands on what all of a call is refused with
+pub all_handed : {A : Type 0} (r : Result A Refusal) (e : Refusal) (f : ℕ) → IsErrAnd r (λ y. y ≡ e) → number e ≡ f → N.number_of r ≡ f
+all_handed r e f h p = ap N.number_of (handed_on r e h) ∙ p
+
+-- ---- what is told of an outcome determines it
+
+-- the refusal with a number
+unfoldable named : ℕ → Refusal
+named n =
+    cond (eqb n N.too_long) why.TooLong (cond (eqb n N.foreign) why.Foreign (cond (eqb n N.too_wide) why.TooWide (cond (eqb n N.too_large) why.TooLarge (cond (eqb n N.bad_layout) why.BadLayout (cond (eqb n N.bad_plan) why.BadPlan (cond (eqb n N.bad_line) why.BadLine (cond (eqb n N.no_room) why.NoRoom (cond (eqb n N.too_few) why.TooFew (cond (eqb n N.past_lookahead) why.PastLookahead (cond (eqb n N.bad_row) why.BadRow (cond (eqb n N.bad_end) why.BadEnd (cond (eqb n N.end_in_byte) why.EndInByte (why.RetiredKind)))))))))))))
+
+named-number : (e : Refusal) → named (number e) ≡ e
+unfolding named
+named-number why.TooLong = refl
+named-number why.Foreign = refl
+named-number why.TooWide = refl
+named-number why.TooLarge = refl
+named-number why.BadLayout = refl
+named-number why.BadPlan = refl
+named-number why.BadLine = refl
+named-number why.NoRoom = refl
+named-number why.TooFew = refl
+named-number why.PastLookahead = refl
+named-number why.BadRow = refl
+named-number why.BadEnd = refl
+named-number why.EndInByte = refl
+named-number why.RetiredKind = refl
+
+-- no two refusals have one number
+pub number_once : (e f : Refusal) → number e ≡ number f → e ≡ f
+number_once e f p = sym (named-number e) ∙ ap named p ∙ named-number f
+
+-- what is said of an outcome, its number among it, is said of no other, if no two values are said alike
+pub once :
+    {A B : Type 0} (say : Result A Refusal → B) (code : B → ℕ) →
+    ((r : Result A Refusal) → code (say r) ≡ N.number_of r) → ((x y : A) → say (Ok x) ≡ say (Ok y) → x ≡ y)
+    → (a b : Result A Refusal) → say a ≡ say b → a ≡ b
+once say code numbered apart (Ok x) (Ok y) p = ap Ok (apart x y p)
+once say code numbered apart (Ok x) (Err f) p = absurd (number_ne f (sym (sym (numbered (Ok x)) ∙ ap code p ∙ numbered (Err f))))
+once say code numbered apart (Err e) (Ok y) p = absurd (number_ne e (sym (numbered (Err e)) ∙ ap code p ∙ numbered (Ok y)))
+once say code numbered apart (Err e) (Err f) p = ap Err (number_once e f (sym (numbered (Err e)) ∙ ap code p ∙ numbered (Err f)))
+
+pub told_once : {A : Type 0} (none : A) (a b : Result A Refusal) → N.told none a ≡ N.told none b → a ≡ b
+told_once {A} none = once (N.told none) (λ (t : N.Told A). t.refusal) (elim [ Ok x ↦ refl | Err e ↦ refl ]) (λ x y p. ap (λ (t : N.Told A). t.value) p)
 
 -- ---- answers
 

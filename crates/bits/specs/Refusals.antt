@@ -1,5 +1,7 @@
 -- The refusal numbers, in the order in which they win: where several apply, the lowest is given.
-use Rattle.std.specs.Prelude.{ℕ, Bool, cond, List, [], ◌∷◌, eqb}
+use Rattle.std.specs.Prelude.{ℕ, Bool, cond, List, [], ◌∷◌, eqb, Result, Ok, Err}
+use Rattle.bits.specs.declared.Refusal.{Refusal}
+use Rattle.bits.specs.declared.Refusal.TheVariants as why
 
 infix 68 ◌⟶◌
 -- done
@@ -61,6 +63,50 @@ end_in_byte = 14
 -- a write of a retired kind: a single
 abbrev pub retired_kind : ℕ
 retired_kind = 16
+
+-- the number of a refusal
+abbrev pub number : Refusal → ℕ
+number why.TooLong = too_long
+number why.Foreign = foreign
+number why.TooWide = too_wide
+number why.TooLarge = too_large
+number why.BadLayout = bad_layout
+number why.BadPlan = bad_plan
+number why.BadLine = bad_line
+number why.NoRoom = no_room
+number why.TooFew = too_few
+number why.PastLookahead = past_lookahead
+number why.BadRow = bad_row
+number why.BadEnd = bad_end
+number why.EndInByte = end_in_byte
+number why.RetiredKind = retired_kind
+
+-- the number of an outcome: that of its refusal, or done
+abbrev pub number_of : {A : Type 0} → Result A Refusal → ℕ
+number_of (Ok x) = done
+number_of (Err e) = number e
+
+-- what a call tells: the number of its refusal or done, and its value
+pub record Told (A : Type 0) : Type 0 where
+  pub refusal : ℕ
+  pub value : A
+
+abbrev pub told_by : {A : Type 0} → ℕ → A → Told A
+told_by e x = record { refusal = e; value = x }
+
+-- an outcome, told so: where there is a refusal, the value is `none`
+abbrev pub told : {A : Type 0} → A → Result A Refusal → Told A
+told none (Ok x) = record { refusal = done; value = x }
+told none (Err e) = record { refusal = number e; value = none }
+
+-- what a call tells that puts something out: the number of its refusal or done, and how long that is, 0 where there is a refusal
+pub record LengthTold : Type 0 where
+  pub refusal : ℕ
+  pub length : ℕ
+
+abbrev pub length_told : Result ℕ Refusal → LengthTold
+length_told (Ok n) = record { refusal = done; length = n }
+length_told (Err e) = record { refusal = number e; length = 0 }
 
 -- the longest byte slice that a call takes
 abbrev pub longest : ℕ

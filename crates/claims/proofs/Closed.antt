@@ -9,15 +9,16 @@ use lib.ListN.{length}
 use lib.Seq.{sets}
 use lib.Dec.{eqb, ltb}
 use borrow.Author.Tests.{ltb-true, ltb-false, le-ltb, lt-leb, eqb-true}
+use Rattle.record.specs.declared.Record.{Record}
 use Rattle.bits.specs.declared.Order.{Order}
 use Rattle.bits.specs.declared.Order.TheVariants.{Big}
-use Rattle.bits.specs.Refusals.{longest, done, or_else, first_refusal, if_done}
+use Rattle.bits.specs.Refusals.{longest, done, or_else, first_refusal, if_done, Told}
 use Rattle.bits.proofs.RefusalLaws.{passed, test_held, if_refused, if_done_lem, number_of}
 use Rattle.bits.proofs.TestLaws.{both, by_test}
 use Rattle.sign.specs.Extend.{extend_refusal, extend_of}
 use Rattle.sign.proofs.SignedLaws.{pattern-signed}
-use Rattle.reader.specs.declared.Moved.{Moved}
-use Rattle.reader.specs.declared.ReadU64.{ReadU64}
+use Rattle.reader.specs.Answers.{Moved}
+use Rattle.reader.specs.Answers.{ReadTold}
 use Rattle.reader.specs.declared.Cursor.{Cursor}
 use Rattle.reader.specs.Cursor.{bits_left, cursor_refusal}
 use Rattle.reader.specs.Answers as R
@@ -27,7 +28,7 @@ use Rattle.reader.proofs.ReadLaws.{fresh_done, fresh_belongs, fresh_place, fresh
 use Rattle.reader.proofs.RemainderLaws.{remainder_where, remainder_none}
 use Rattle.packing.specs.Packing.{Belongs, state_refusal}
 use Rattle.writer.specs.declared.Writer.{Writer}
-use Rattle.writer.specs.declared.Wrote.{Wrote}
+use Rattle.writer.specs.Answers.{Wrote}
 use Rattle.writer.specs.Writer.{state_in}
 use Rattle.writer.specs.Answers as W
 use Rattle.writer.proofs.WriteLaws.{Stored, write_stored, signed_stored, bytes_stored, flush_stored}
@@ -49,19 +50,18 @@ use Rattle.layout.proofs.LayoutLaws.{layout_of}
 use Rattle.layout.proofs.Theorems.{compiled_passes, plan_accepted, check_exactly, compiled_left, decode_compiled, compiled_same, plan_layout, plan_length, bytes_items, items_bytes, bytes_layout}
 use Rattle.plan.specs.Run.{run_of, run_out}
 use Rattle.plan.proofs.Theorems as P
-use Rattle.line.specs.declared.LineRead.{LineRead}
 use Rattle.line.specs.Grammar.{Line}
 use Rattle.line.proofs.Theorems.{accepted, acceptable, refusable, nearest_date, five_exact, sixth_decides, date_bound}
 use Rattle.listing.specs.Listing.{write_line, write_out}
 use Rattle.listing.proofs.Theorems.{round_trip, five_decimals, line_room}
-use Rattle.strip.specs.declared.StripRead.{StripRead}
+use Rattle.strip.specs.Answers.{StripTold}
 use Rattle.strip.specs.Strip.{all_numbers, count_of, records_of, tail_good}
 use Rattle.strip.specs.Answers as S
 use Rattle.strip.proofs.Theorems.{bits_record, record_bits_lem, record_there, strip_there_and_back, fields_where, packed_out_lem, each_packed, each_read, calls_there_and_back}
 use Rattle.strip.proofs.StripLaws.{length_strip, strip_same}
 use Rattle.roundtrip.specs.Mixed as Trip
 use Rattle.roundtrip.proofs.MixedTrip.{mixed_round_trip}
-use Rattle.text.specs.declared.Packed.{Packed}
+use Rattle.text.specs.Answers.{Packed}
 use Rattle.text.specs.Text.{body_of}
 use Rattle.vetting.proofs.Theorems.{accepted_exactly, bad_tail_exactly, fault_exactly, fault_one, told_exactly}
 use Rattle.rows.specs.Answers as F
@@ -91,7 +91,7 @@ unfolding R.bytes_of R.bytes_out R.consume_of R.refill_of R.lower_of
 refused_reads o s c = (
   λ w h.
       let e = read_refused o s c w (λ z. h (read_refusal_lem o s c w ∙ z)) in
-      (ap (λ (r : ReadU64). r.value) e, ap (λ (r : ReadU64). r.cursor) e),
+      (ap (λ (r : ReadTold ℕ). r.value) e, ap (λ (r : ReadTold ℕ). r.cursor) e),
   λ out h. (kept _ _ _ h, kept _ _ _ h),
   λ n h. kept _ _ _ h,
   λ h. kept _ _ _ h,
@@ -119,9 +119,9 @@ refused_outputs s out = (
   λ n h. kept _ _ _ h,
   λ h.
       let e = S.list_refusal s (length out) in
-      let none : StripRead = record { refusal = e; count = 0; tail_good = false } in
-      let all : StripRead = record { refusal = done; count = count_of s; tail_good = tail_good s } in
-      kept e (sets out 0 (all_numbers (records_of s))) out (λ z. h (number_of (λ (r : StripRead). r.refusal) e all none refl refl ∙ z)),
+      let none : StripTold = record { refusal = e; count = 0; tail_good = false } in
+      let all : StripTold = record { refusal = done; count = count_of s; tail_good = tail_good s } in
+      kept e (sets out 0 (all_numbers (records_of s))) out (λ z. h (number_of (λ (r : StripTold). r.refusal) e all none refl refl ∙ z)),
   λ r h. kept _ _ _ h,
   λ h. kept _ _ _ h,
   λ h. kept _ _ _ h,
@@ -336,7 +336,7 @@ layout_bytes = (
 
 pub lines_exactly : C.LinesExactly
 lines_exactly s r short = (
-  λ e. subst (Line s) (ap (λ (a : LineRead). a.«record») e) (accepted s (ap (λ (a : LineRead). a.refusal) e)),
+  λ e. subst (Line s) (ap (λ (a : Told Record). a.value) e) (accepted s (ap (λ (a : Told Record). a.refusal) e)),
   λ l. acceptable short l,
 )
 

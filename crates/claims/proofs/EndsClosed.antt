@@ -181,7 +181,7 @@ module _ (s : List ℕ) (c : Cursor) (t : List ℕ) (d : Cursor) (h : Alike Big 
       at ∙ ap (record_at t) h.here
 
   alike_record :
-      ((S.read_of s c).found ≡ (S.read_of t d).found)
+      ((S.read_of s c).value ≡ (S.read_of t d).value)
       × SameMove (moved (S.read_of s c).refusal (S.read_of s c).cursor) (moved (S.read_of t d).refusal (S.read_of t d).cursor)
   unfolding S.read_of
   alike_record =

@@ -6,23 +6,22 @@ use lib.ListN.{length}
 use lib.IntN.{ℤ, pos, negsuc}
 use Rattle.bits.specs.declared.Order.{Order}
 use Rattle.bits.specs.declared.Order.TheVariants.{Little, Big}
-use Rattle.bits.specs.Refusals.{or_else, first_refusal}
+use Rattle.bits.specs.Refusals.{or_else, first_refusal, LengthTold}
 use Rattle.bits.specs.Field.{position, bit, join, field}
 use Rattle.bits.specs.Word.{first, rest, held}
 use Rattle.bits.specs.Signed.{signed, pattern}
-use Rattle.sign.specs.declared.Extended.{Extended}
+use Rattle.bits.specs.Refusals.{Told}
 use Rattle.sign.specs.Extend.{extend_refusal, extend_of}
 use Rattle.counts.specs.Counts.{after_read}
 use Rattle.lookahead.specs.State.{register_of, belongs, state_refusal}
 use Rattle.reader.specs.declared.Cursor.{Cursor}
-use Rattle.reader.specs.declared.ReadU64.{ReadU64}
-use Rattle.reader.specs.declared.Moved.{Moved}
+use Rattle.reader.specs.Answers.{ReadTold}
+use Rattle.reader.specs.Answers.{Moved}
 use Rattle.reader.specs.declared.Partial.{Partial}
 use Rattle.reader.specs.Cursor.{cursor_refusal, bits_left, cursor_at}
 use Rattle.reader.specs.Answers.{new_of, read_refusal, read_of, remainder_refusal, start_of, remainder_of, partial_of, lower_refusal, lower_of}
 use Rattle.packing.specs.Packing as P
 use Rattle.packing.specs.Packing.{bytes_of, put, put_out}
-use Rattle.layout.specs.declared.Compiled.{Compiled}
 use Rattle.layout.specs.Layout.{items_of, good_items, is_layout}
 use Rattle.layout.specs.Plan.{takes, refilled}
 use Rattle.layout.specs.Answers.{compile_refusal, compile_of, compile_out}
@@ -39,7 +38,6 @@ use Rattle.strip.specs.Strip.{joined, strip_bytes, records_from, tail_good}
 use Rattle.vetting.specs.Verdicts.{rule_broken, verdict_from, verdict_of}
 use Rattle.rows.specs.Row.{letter, columns_at, columns_of, bits_of_columns, row_bytes, within, in_range, record_said}
 use Rattle.rows.specs.Rows.{rows_bytes, rows_whole, records_in_rows, bad_from}
-use Rattle.text.specs.declared.Listed.{Listed}
 use Rattle.text.specs.Text.{header, bad_tail, listed, text_of, headed, lines_in}
 use Rattle.text.specs.Answers.{list_refusal, list_of}
 use Rattle.jobs.specs.Jobs.{too_long_said, bad_line_said, bad_row_said, ok_said, fault_said, verdict_said, list_answer, pack_answer, rows_answer, pack_rows_answer, check_answer}
@@ -86,7 +84,7 @@ pub data Asked : Type 0 where
 -- reads of these widths from a cursor on
 unfoldable pub readings : Order → List ℕ → Cursor → List ℕ → List ℤ
 readings o s c [] = []
-readings o s c (w ∷ ws) = let r : ReadU64 = read_of o s c w in (pos r.refusal ∷ pos r.value ∷ readings o s r.cursor ws)
+readings o s c (w ∷ ws) = let r : ReadTold ℕ = read_of o s c w in (pos r.refusal ∷ pos r.value ∷ readings o s r.cursor ws)
 
 -- writes of these fields from a writer on, and a flush
 unfoldable pub writings : Order → List ℕ → Writer → List Field → List ℤ
@@ -97,28 +95,28 @@ writings o s w (f ∷ fs) =
 
 -- what the definitions answer
 unfoldable pub told : Asked → List ℤ
-told (extends v w) = let r : Extended = extend_of v w in (pos r.refusal ∷ r.value ∷ [])
+told (extends v w) = let r : Told ℤ = extend_of v w in (pos r.refusal ∷ r.value ∷ [])
 told (reads o s ws) = readings o s (new_of s).cursor ws
 told (writes o s fs) = writings o s (W.new_of (length s)).writer fs
 told (remains o s n) =
     let c : Cursor = (read_of o s (new_of s).cursor n).cursor in
-    let p : Partial = partial_of o s c in
-    (pos p.partial_bits ∷ pos p.partial_byte ∷ map pos (remainder_of o s c))
+    let p : Told Partial = partial_of o s c in
+    (pos p.value.partial_bits ∷ pos p.value.partial_byte ∷ map pos (remainder_of o s c))
 told (reads_to e o s ws) = let m : Moved = lower_of o s (new_of s).cursor e in (pos m.refusal ∷ readings o s m.cursor ws)
 told (remains_to e o s n) =
     let m : Moved = lower_of o s (new_of s).cursor e in
     let c : Cursor = (read_of o s m.cursor n).cursor in
-    let p : Partial = partial_of o s c in
-    (pos m.refusal ∷ pos p.refusal ∷ pos p.partial_bits ∷ pos p.partial_byte ∷ map pos (remainder_of o s c))
+    let p : Told Partial = partial_of o s c in
+    (pos m.refusal ∷ pos p.refusal ∷ pos p.value.partial_bits ∷ pos p.value.partial_byte ∷ map pos (remainder_of o s c))
 told (compiles s out) =
-    let r : Compiled = compile_of s (length out) in (pos r.refusal ∷ pos r.length ∷ map pos (compile_out s out))
+    let r : LengthTold = compile_of s (length out) in (pos r.refusal ∷ pos r.length ∷ map pos (compile_out s out))
 told (listed_by_program s) = map pos (list_answer s)
 told (packed_by_program t) = map pos (pack_answer t)
 told (rows_by_program s) = map pos (rows_answer s)
 told (rows_packed_by_program t) = map pos (pack_rows_answer t)
 told (checked_by_program s) = map pos (check_answer s)
 told said = map pos too_long_said
-told (lists s room) = let r : Listed = list_of s room in (pos r.refusal ∷ pos r.length ∷ map pos (text_of s))
+told (lists s room) = let r : LengthTold = list_of s room in (pos r.refusal ∷ pos r.length ∷ map pos (text_of s))
 
 -- an example and its expected answer
 pub record Example : Type 0 where

@@ -7,6 +7,7 @@ use native.Mathlib.Omega.{arith}
 use lib.ListN.{length, replicate, length-replicate}
 use lib.Dec.{eqb}
 use lib.IntN.{ℤ}
+use Rattle.record.specs.declared.Record.{Record}
 use Rattle.bits.specs.declared.Order.{Order}
 use Rattle.bits.specs.declared.Order.TheVariants.{Big}
 use Rattle.bits.specs.Refusals.{longest, done}
@@ -17,7 +18,7 @@ use Rattle.floats.proofs.FloatLaws.{cond_either}
 use Rattle.packing.specs.Packing.{Belongs}
 use Rattle.packing.proofs.BelongsLaws.{belongs_refusal}
 use Rattle.reader.specs.declared.Cursor.{Cursor}
-use Rattle.reader.specs.declared.ReadU64.{ReadU64}
+use Rattle.reader.specs.Answers.{ReadTold}
 use Rattle.reader.specs.Cursor.{place, stop, gone_to, cursor_refusal}
 use Rattle.reader.specs.Answers as R
 use Rattle.reader.proofs.CursorLaws.{refusal_own, gone_stop}
@@ -36,7 +37,6 @@ use Rattle.plan.specs.Run.{fields_of, run_refusal, run_of}
 use Rattle.plan.proofs.Theorems.{run-belongs}
 use Rattle.record.specs.Record.{record_bits}
 use Rattle.strip.specs.Answers as S
-use Rattle.strip.specs.declared.RecordRead.{RecordRead}
 use Rattle.strip.proofs.AnswerLaws.{pack_stored, record_belongs}
 use Rattle.claims.specs.Reached as Made
 use Rattle.claims.specs.Reached.{Reached, Only, Called, ReachedCursor, cursor_of}
@@ -97,7 +97,7 @@ module _ (In : Order → Type 0) (s : List ℕ) (short : length s ≤ longest) (
 
   read_owned : (c : Cursor) → Owned c → (o : Order) → In o → (w : ℕ) → Owned (R.read_of o s c w).cursor
   unfolding R.read_of
-  read_owned c k o a w = if_holds (λ (r : ReadU64). Owned r.cursor) _ _ _ k (λ z. (o, a, read_belongs o s c w z))
+  read_owned c k o a w = if_holds (λ (r : ReadTold ℕ). Owned r.cursor) _ _ _ k (λ z. (o, a, read_belongs o s c w z))
 
   called_owned : {c : Cursor} {o : Order} {d : Cursor} → Owned c → In o → Called s c o d → Owned d
   unfolding R.bytes_of R.consume_of R.refill_of T.read_of run_of S.read_of
@@ -107,7 +107,7 @@ module _ (In : Order → Type 0) (s : List ℕ) (short : length s ≤ longest) (
   called_owned {c} {o = o} k a Made.refill_lookahead = if_holds Owned _ _ _ k (λ z. (o, a, (refill_advanced o s c z).belongs))
   called_owned {c} {o = o} k a (Made.read_typed kind w) = subst Owned (sym (typed_cursor _ _ _)) (read_owned c k o a (width_of kind w))
   called_owned {c} {o = o} k a (Made.run q room) = if_holds Owned _ _ _ k (λ z. (o, a, run-belongs o s c q room z))
-  called_owned {c} k a Made.read_record = if_holds (λ (x : RecordRead). Owned x.cursor) _ _ _ k (λ z. (Big, a, record_belongs s c z))
+  called_owned {c} k a Made.read_record = if_holds (λ (x : ReadTold Record). Owned x.cursor) _ _ _ k (λ z. (Big, a, record_belongs s c z))
 
   pub cursor_owned : {c : Cursor} → ReachedCursor In s c → Owned c
   unfolding R.lower_of
@@ -130,4 +130,4 @@ called_stop {s} {c} {o = o} (Made.consume n) = consume_stop o s c n
 called_stop {s} {c} {o = o} Made.refill_lookahead = refill-stop o s c
 called_stop {s} {c} {o = o} (Made.read_typed k w) = ap (stop s) (typed_cursor _ _ _) ∙ read_stop o s c (width_of k w)
 called_stop {s} {c} {o = o} (Made.run q room) = let p = place c + bits_of (fields_of q) in stop_stays o s c (run_refusal o s c q room) (gone_to o s c p) (gone_stop o s c p)
-called_stop {s} {c} Made.read_record = cond_either (λ (x : RecordRead). stop s x.cursor ≡ stop s c) (eqb (S.read_refusal s c) done) (λ z. gone_stop Big s c (place c + record_bits)) (λ z. refl)
+called_stop {s} {c} Made.read_record = cond_either (λ (x : ReadTold Record). stop s x.cursor ≡ stop s c) (eqb (S.read_refusal s c) done) (λ z. gone_stop Big s c (place c + record_bits)) (λ z. refl)

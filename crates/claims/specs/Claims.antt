@@ -7,7 +7,7 @@ use Rattle.std.specs.Float.{binary32, binary64}
 use Rattle.std.specs.Float.Ieee.{nan_bits, of_bits}
 use Rattle.bits.specs.declared.Order.{Order}
 use Rattle.bits.specs.declared.Order.TheVariants.{Big}
-use Rattle.bits.specs.Refusals.{longest, done, too_long, foreign, bad_plan, bad_line, too_few, bad_row, end_in_byte, retired_kind, or_else}
+use Rattle.bits.specs.Refusals.{longest, done, too_long, foreign, bad_plan, bad_line, too_few, bad_row, end_in_byte, retired_kind, or_else, told_by}
 use Rattle.bits.specs.Field.{field, join}
 use Rattle.bits.specs.Signed.{signed, pattern}
 use Rattle.packing.specs.Packing.{filled, story}
@@ -31,7 +31,7 @@ use Rattle.typed.specs.declared.Kind.{Kind}
 use Rattle.typed.specs.declared.Kind.TheVariants as Kinds
 use Rattle.typed.specs.declared.Typed.{Typed}
 use Rattle.typed.specs.declared.Typed.TheVariants as Case
-use Rattle.typed.specs.declared.TypedRead.TheVariants.{Done, Refused}
+use Rattle.typed.specs.Answers.{Done, Refused}
 use Rattle.typed.specs.Typed.{typed_of, bits_of as typed_bits, kind_of, same_typed, widened_typed, width_of, meaning, Fits as TypedFits}
 use Rattle.typed.specs.Answers as T
 use Rattle.roundtrip.specs.Mixed as Trip
@@ -50,13 +50,13 @@ use Rattle.strip.specs.Bits.{bits_of as record_bits_of, record_at}
 use Rattle.strip.specs.Strip.{records_in, all_fit, strip_length, strip_bytes, count_of, records_of, tail_good}
 use Rattle.strip.specs.Answers as S
 use Rattle.strip.specs.Calls.{pack_each, read_times}
-use Rattle.vetting.specs.declared.Verdict.TheVariants.{Fine, Broken, BadTail}
+use Rattle.vetting.specs.Verdicts.{Fine, Broken, BadTail}
 use Rattle.vetting.specs.Rules.{AllKeep, AtFault}
 use Rattle.vetting.specs.Verdicts.{verdict_of, told}
 use Rattle.rows.specs.Row.{columns_at, columns_of, row_bytes, in_range, row_length, row_bits}
 use Rattle.rows.specs.Rows.{rows_bytes, row_count, rows_whole, records_of_rows}
 use Rattle.rows.specs.Answers as F
-use Rattle.text.specs.declared.Packed.{Packed}
+use Rattle.text.specs.Answers.{Packed}
 use Rattle.text.specs.Text.{text_of, bad_tail}
 use Rattle.text.specs.Grammar.{AllFive, FirstBad, GoodText}
 use Rattle.text.specs.Answers as X
@@ -183,9 +183,9 @@ RemainderWhere =
     (o : Order) (s : List ℕ) (c : Cursor) → cursor_refusal o s c ≡ done →
     let at = (place c + 7) / 8 in
     (stop s c % 8 ≡ 0 →
-    (R.start_of o s c ≡ at) × (R.remainder_of o s c ≡ slice at (stop s c / 8) s) × (R.partial_of o s c ≡ record { refusal = done; partial_bits = 8 * at - place c; partial_byte = field o s (place c) (8 * at - place c) }))
+    (R.start_of o s c ≡ at) × (R.remainder_of o s c ≡ slice at (stop s c / 8) s) × (R.partial_of o s c ≡ told_by done (record { partial_bits = 8 * at - place c; partial_byte = field o s (place c) (8 * at - place c) })))
     × ((stop s c % 8 ≡ 0 → ⊥) →
-    (R.start_of o s c ≡ 0) × (R.remainder_of o s c ≡ []) × (R.partial_of o s c ≡ record { refusal = end_in_byte; partial_bits = 0; partial_byte = 0 }))
+    (R.start_of o s c ≡ 0) × (R.remainder_of o s c ≡ []) × (R.partial_of o s c ≡ told_by end_in_byte R.no_partial))
 
 -- sign extension gives the signed meaning at every width from 0 to 64, and the bits come back from it
 abbrev pub SignExtends : Type 0
@@ -481,7 +481,7 @@ EachRead =
     (s : List ℕ) → length s ≤ longest →
     ((i : ℕ) → i < count_of s →
     let r = S.read_of s (read_times i s (R.new_of s).cursor) in
-    (r.refusal ≡ done) × (r.found ≡ get_or (records_of s) i no_record))
+    (r.refusal ≡ done) × (r.value ≡ get_or (records_of s) i no_record))
     × ((S.read_of s (read_times (count_of s) s (R.new_of s).cursor)).refusal ≡ too_few)
 
 -- numbers of 64 bits that were packed are read back, every one, into any list with room
@@ -532,13 +532,13 @@ TextsBack =
 abbrev pub RowBack : Type 0
 RowBack =
     (out : List ℕ) (r : Record) → F.row_refusal (length out) r ≡ done
-    → (columns_at (F.row_out out r) 0 ≡ columns_of r) × (F.read_of (F.row_out out r) ≡ record { refusal = done; found = r })
+    → (columns_at (F.row_out out r) 0 ≡ columns_of r) × (F.read_of (F.row_out out r) ≡ record { refusal = done; value = r })
 
 -- a row that becomes a record comes back from it as the same 18 bytes
 abbrev pub RowSame : Type 0
 RowSame =
     (s out : List ℕ) → ((i : ℕ) → get_or s i 0 < 256) → (F.read_of s).refusal ≡ done → length out ≤ longest → row_length ≤ length out →
-    let r = (F.read_of s).found in
+    let r = (F.read_of s).value in
     (F.row_refusal (length out) r ≡ done) × (take row_length (F.row_out out r) ≡ take row_length s)
 
 -- a row is refused with 11 exactly if no record that fits has it

@@ -7,13 +7,13 @@ use Rattle.bits.specs.Refusals.{longest, done, too_long, too_wide, too_few, past
 use Rattle.counts.specs.Counts as C
 use Rattle.lookahead.specs.State.{state_refusal}
 use Rattle.reader.specs.declared.Cursor.{Cursor}
-use Rattle.reader.specs.declared.Moved.{Moved}
+use Rattle.reader.specs.Answers.{Moved}
 use Rattle.reader.specs.Cursor.{state_in, counts_in, ending_at, place, stop, bits_left, bytes_left, unfetched, ahead_in, cursor_refusal, Alike}
 use Rattle.reader.specs.Answers as R
 use Rattle.reader.specs.Answers.{moved}
 use Rattle.typed.specs.declared.Kind.{Kind}
-use Rattle.typed.specs.declared.TypedRead.{TypedRead}
-use Rattle.typed.specs.declared.TypedRead.TheVariants.{Done, Refused}
+use Rattle.typed.specs.Answers.{TypedRead}
+use Rattle.typed.specs.Answers.{Done, Refused}
 use Rattle.typed.specs.Answers as T
 use Rattle.plan.specs.Run.{run_of, run_out}
 use Rattle.strip.specs.Answers as S
@@ -98,7 +98,7 @@ AnswersAlike =
     × (o ≡ Big →
     let x = S.read_of s c in
     let y = S.read_of t d in
-    (x.found ≡ y.found) × SameMove (moved x.refusal x.cursor) (moved y.refusal y.cursor))
+    (x.value ≡ y.value) × SameMove (moved x.refusal x.cursor) (moved y.refusal y.cursor))
     × ((e : ℕ) → SameMove (R.lower_of o s c e) (R.lower_of o t d e))
     × (bits_left s c ≡ bits_left t d)
     × (bytes_left s c ≡ bytes_left t d)

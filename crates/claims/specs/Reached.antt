@@ -10,8 +10,8 @@ use Rattle.writer.specs.declared.Writer.{Writer}
 use Rattle.writer.specs.Answers as W
 use Rattle.typed.specs.declared.Kind.{Kind}
 use Rattle.typed.specs.declared.Typed.{Typed}
-use Rattle.typed.specs.declared.TypedRead.{TypedRead}
-use Rattle.typed.specs.declared.TypedRead.TheVariants.{Done, Refused}
+use Rattle.typed.specs.Answers.{TypedRead}
+use Rattle.typed.specs.Answers.{Done, Refused}
 use Rattle.typed.specs.Answers as T
 use Rattle.plan.specs.Run.{run_of}
 use Rattle.record.specs.declared.Record.{Record}

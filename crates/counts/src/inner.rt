@@ -10,8 +10,7 @@ pub fn fetched(unfetched: usize, lookahead: u32) -> usize
     requires { lookahead ≤ 63 }
     ensures { result ≡ fetch unfetched lookahead }
 {
-    let most = (7 - lookahead / 8) as usize;
-    if unfetched < most { unfetched } else { most }
+    unfetched.min((7 - lookahead / 8) as usize)
 }
 
 // The counts after a refill.
@@ -50,10 +49,8 @@ fn after_eights(len: usize, k: Counts, n: usize) -> Counts
     ensures { result ≡ after_eights len n k }
 {
     let mut x = k;
-    let mut left = n;
-    while 0 < left {
+    for _ in 0..n {
         x = after_eight(len, x);
-        left -= 1;
     }
     x
 }

@@ -61,16 +61,16 @@ module _ (s : List ℕ) (at value i : ℕ) (l : Left s at value i) where
   left_stop h e = left_none (run-stop s i h e)
 
   -- or at the text's end
-  pub left_end : length s ≤ i → record { value = value; next = i } ≡ run_at s at
-  left_end h = let w = l.within in left_none (run_end s i (omega arith))
+  pub left_end : length s ≤ i → record { value = value; next = length s } ≡ run_at s at
+  left_end h =
+      let w = l.within in
+      let e : i ≡ length s = omega arith in
+      ap (λ (n : ℕ). record { value = value; next = n }) (sym e) ∙ left_none (run_end s i e)
 
 -- ---- the byte at a place
 
 module _ (s : List ℕ) (i c : ℕ) where
-  pub starts_in : i < length s → starts c (drop i s) ≡ eqb (get_or s i 0) c
-  starts_in h = ap (starts c) (drop-cons s i 0 h)
-
-  pub starts_out : length s ≤ i → starts c (drop i s) ≡ false
+  starts_out : length s ≤ i → starts c (drop i s) ≡ false
   starts_out h = ap (starts c) (drop_of_length-le s h)
 
   pub starts-within : starts c (drop i s) ≡ true → i < length s
@@ -122,13 +122,6 @@ module _ (s : List ℕ) (at : ℕ) (r : Run) (h : at ≤ length s) (e : r ≡ ru
 
   pub whole_other : at < r.next → (get_or s at 0 ≡ zero_digit → ⊥) → is_whole (run (drop at s)) ≡ true
   whole_other k z = let n = count_is in let m : 1 ≤ length (run (drop at s)) = omega arith in rw (lead_is k, ne_eqb _ _ z) (le-leb _ _ m)
-
-  pub whole_none : r.next ≤ at → is_whole (run (drop at s)) ≡ false
-  whole_none k = let n = count_is in none (run (drop at s)) (omega arith)
-    where
-      none : (ds : List ℕ) → length ds ≡ 0 → is_whole ds ≡ false
-      none [] z = refl
-      none (b ∷ ds) z = absurd (omega arith)
 
   -- ---- the part that it is, closed by a byte
 

@@ -1,14 +1,15 @@
 // Whole parts and decimals read from a place of a text, for proved callers.
-ghost use Rattle.std.specs.Prelude.{◌≡◌, true, ◌&&◌, ◌+◌, ◌-◌, ◌*◌, ◌≤◌, leb, length, drop};
+ghost use Rattle.std.specs.Prelude.{◌≡◌, true, ◌+◌, ◌-◌, ◌*◌, ◌≤◌, length, drop};
 ghost use Rattle.digits.specs.Digits.{zero_digit};
 ghost use Rattle.digits.specs.Reading.{is_digit, run as Reading·run, most, sat, starts, closed, is_whole, whole_at, decimals_at, run_at, Stands};
 
-// What no field holds: the value of a part that is bad or too large.
+// What no field holds: the value of a part that is bad or too large. No Option: the definition `bad` of specs/Reading holds it, and sums
+// carry it on to one test of the whole line.
 pub const MOST: u64 = 1_000_000_000_000;
 
 // A part's value, how many digits it has, and the place behind the byte that ends it. What is bad has the value MOST, no digit, and the
 // end of the text as its place.
-#[derive(Clone, Copy)]
+#[derive(Clone, Copy, Debug, PartialEq, Eq)]
 pub struct PartAt {
     pub value: u64,
     pub count: usize,
@@ -16,24 +17,10 @@ pub struct PartAt {
 }
 
 // The value of a run of digits, and the place where it ends.
-#[derive(Clone, Copy)]
+#[derive(Clone, Copy, Debug, PartialEq, Eq)]
 pub struct Run {
     pub value: u64,
     pub next: usize,
-}
-
-// Whether n is from low to high.
-fn between(low: usize, n: usize, high: usize) -> bool
-    ensures { result ≡ (leb low n && leb n high) }
-{
-    if low <= n { n <= high } else { false }
-}
-
-// Whether a byte is a digit.
-fn is_digit(b: u8) -> bool
-    ensures { result ≡ is_digit b }
-{
-    between(b'0' as usize, b as usize, b'9' as usize)
 }
 
 // The value with one digit more behind it; it stays at MOST once it is there.
@@ -41,8 +28,8 @@ fn one_more(value: u64, b: u8) -> u64
     requires { (value ≤ most) × (is_digit b ≡ true) }
     ensures { result ≡ sat (10 * value + (b - zero_digit)) }
 {
-    let n = 10 * value + ((b - b'0') as u64);
-    if n < MOST { n } else { MOST }
+    let n = 10 * value + u64::from(b - b'0');
+    n.min(MOST)
 }
 
 // The digits from a place on: their value, and where they end.
@@ -50,18 +37,18 @@ fn run_at(src: &[u8], at: usize) -> Run
     requires { at ≤ length src.now }
     ensures { result ≡ run_at src.now at }
 {
-    let mut value: u64 = 0;
-    let mut i = at;
-    while i < src.len() {
+    let mut value = 0;
+    for i in at..src.len() {
         let b = src[i];
-        if is_digit(b) {
-            value = one_more(value, b);
-            i += 1;
-        } else {
+        if !b.is_ascii_digit() {
             return Run { value, next: i };
         }
+        value = one_more(value, b);
     }
-    Run { value, next: i }
+    Run {
+        value,
+        next: src.len(),
+    }
 }
 
 // Whether a byte stands at a place.
@@ -69,7 +56,7 @@ pub fn starts_at(src: &[u8], at: usize, b: u8) -> bool
     requires { at ≤ length src.now }
     ensures { result ≡ starts b (drop at src.now) }
 {
-    if at < src.len() { src[at] == b } else { false }
+    at < src.len() && src[at] == b
 }
 
 // A run that passed its test, or did not, with the byte that has to end it.
@@ -77,25 +64,18 @@ fn close(src: &[u8], at: usize, run: Run, ok: bool, end: u8) -> PartAt
     requires { (at ≤ length src.now) × (run ≡ run_at src.now at) }
     ensures { Stands src.now result (closed ok end (drop at src.now)) }
 {
-    let last = run.next;
-    if ok {
-        if starts_at(src, last, end) {
-            return PartAt {
-                value: run.value,
-                count: last - at,
-                next: last + 1,
-            };
+    if ok && starts_at(src, run.next, end) {
+        PartAt {
+            value: run.value,
+            count: run.next - at,
+            next: run.next + 1,
         }
-        return PartAt {
+    } else {
+        PartAt {
             value: MOST,
             count: 0,
             next: src.len(),
-        };
-    }
-    PartAt {
-        value: MOST,
-        count: 0,
-        next: src.len(),
+        }
     }
 }
 
@@ -104,14 +84,7 @@ fn is_whole(src: &[u8], at: usize, run: Run) -> bool
     requires { (at ≤ length src.now) × (run ≡ run_at src.now at) }
     ensures { result ≡ is_whole (Reading·run (drop at src.now)) }
 {
-    let last = run.next;
-    if at < last {
-        if src[at] == b'0' {
-            return last - at == 1;
-        }
-        return true;
-    }
-    false
+    at < run.next && (src[at] != b'0' || run.next - at == 1)
 }
 
 // The whole part at a place, ended by a byte.
@@ -130,7 +103,6 @@ pub fn decimals_at(src: &[u8], at: usize, low: usize, high: usize, end: u8) -> P
     ensures { Stands src.now result (decimals_at low high end (drop at src.now)) }
 {
     let run = run_at(src, at);
-    let last = run.next;
-    let ok = between(low, last - at, high);
-    close(src, at, run, ok, end)
+    let count = run.next - at;
+    close(src, at, run, low <= count && count <= high, end)
 }

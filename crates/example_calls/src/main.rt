@@ -2,39 +2,42 @@
 // each line written says whether the call answered so. `start` is a fresh cursor of the slice that is read, `blank` a fresh writer.
 #![tactic(auto)]
 
-use bits::Order;
-use reader::Cursor;
+use bits::{Order, Refusal};
+use reader::{Cursor, Read};
 use record::Record;
-use typed::{Kind, Typed, TypedRead};
-use vetting::Verdict;
+use text::PackError;
+use typed::Kind;
+use vetting::{Rule, Verdict};
 use writer::Writer;
 
-fn main(rt: HostRuntime) {
-    reads(&rt);
-    wide_reads(&rt);
-    fields(&rt);
-    counts(&rt);
-    bytes(&rt);
-    manual(&rt);
-    remainders(&rt);
-    ends(&rt);
-    borrowed(&rt);
-    remainder_records(&rt);
-    writes(&rt);
-    wide_writes(&rt);
-    field_writes(&rt);
+fn main(rt: HostRuntime) -> Result<(), Refusal> {
+    refusals(&rt);
+    reads(&rt)?;
+    wide_reads(&rt)?;
+    fields(&rt)?;
+    counts(&rt)?;
+    bytes(&rt)?;
+    manual(&rt)?;
+    remainders(&rt)?;
+    ends(&rt)?;
+    borrowed(&rt)?;
+    remainder_records(&rt)?;
+    writes(&rt)?;
+    wide_writes(&rt)?;
+    field_writes(&rt)?;
     floats_and_signs(&rt);
-    typed_values(&rt);
-    layouts(&rt);
-    records(&rt);
-    lists(&rt);
-    wrapped(&rt);
+    typed_values(&rt)?;
+    layouts(&rt)?;
+    records(&rt)?;
+    lists(&rt)?;
+    wrapped(&rt)?;
     vetted(&rt);
     tables(&rt);
     lines(&rt);
     texts(&rt);
     whole_jobs(&rt);
     hosts(&rt);
+    Ok(())
 }
 
 // Writes a call's name, and whether it answered as expected.
@@ -43,180 +46,180 @@ fn expect(rt: &impl Print, call: &str, holds: bool) {
     let _told = println!(rt; "{call} {said}");
 }
 
-// A cursor at the start of a slice.
-fn fresh(src: &[u8]) -> Cursor {
-    let made = Cursor::new(src);
-    let cursor = made.cursor;
-    cursor
+fn refusals(rt: &impl Print) {
+    expect(rt, "Refusal::number", Refusal::TooFew.number() == 9);
 }
 
-// A writer at the start of any output.
-fn blank() -> Writer {
-    let made = Writer::new(b"");
-    let fresh = made.writer;
-    fresh
-}
-
-fn reads(rt: &impl Print) {
+fn reads(rt: &impl Print) -> Result<(), Refusal> {
     let made = Cursor::new(b"\x5a\xff");
-    expect(rt, "Cursor::new", made.refusal == 0);
+    expect(rt, "Cursor::new", made.is_ok());
 
     let far = Cursor::from_parts(9, 0, 0, 72);
     let got = far.read_u8(Order::Big, b"\x5a");
-    expect(rt, "Cursor::from_parts", got.refusal == 2);
+    expect(rt, "Cursor::from_parts", got == Err(Refusal::Foreign));
 
-    let start = fresh(b"\x80");
-    let got = start.read_bit(Order::Big, b"\x80");
+    let start = Cursor::new(b"\x01\x02")?;
+    let got: Read<u16> = start.read(Order::Big, b"\x01\x02")?;
+    expect(rt, "read", got.value == 0x0102);
+
+    let start = Cursor::new(b"\x80")?;
+    let got = start.read_bit(Order::Big, b"\x80")?;
     expect(rt, "read_bit", got.value);
 
-    let start = fresh(b"\x5a");
-    let got = start.read_u8(Order::Big, b"\x5a");
+    let start = Cursor::new(b"\x5a")?;
+    let got = start.read_u8(Order::Big, b"\x5a")?;
     expect(rt, "read_u8", got.value == 0x5a);
 
-    let start = fresh(b"\xda");
-    let got = start.read_i8(Order::Big, b"\xda");
+    let start = Cursor::new(b"\xda")?;
+    let got = start.read_i8(Order::Big, b"\xda")?;
     expect(rt, "read_i8", got.value == -38);
 
-    let start = fresh(b"\x01\x02");
-    let got = start.read_u16(Order::Little, b"\x01\x02");
+    let start = Cursor::new(b"\x01\x02")?;
+    let got = start.read_u16(Order::Little, b"\x01\x02")?;
     expect(rt, "read_u16", got.value == 0x0201);
 
-    let start = fresh(b"\xfe\xff");
-    let got = start.read_i16(Order::Little, b"\xfe\xff");
+    let start = Cursor::new(b"\xfe\xff")?;
+    let got = start.read_i16(Order::Little, b"\xfe\xff")?;
     expect(rt, "read_i16", got.value == -2);
 
-    let start = fresh(b"\x00\x01\x02\x03");
-    let got = start.read_u32(Order::Big, b"\x00\x01\x02\x03");
+    let start = Cursor::new(b"\x00\x01\x02\x03")?;
+    let got = start.read_u32(Order::Big, b"\x00\x01\x02\x03")?;
     expect(rt, "read_u32", got.value == 0x0001_0203);
 
-    let start = fresh(b"\xff\xff\xff\xfe");
-    let got = start.read_i32(Order::Big, b"\xff\xff\xff\xfe");
+    let start = Cursor::new(b"\xff\xff\xff\xfe")?;
+    let got = start.read_i32(Order::Big, b"\xff\xff\xff\xfe")?;
     expect(rt, "read_i32", got.value == -2);
+    Ok(())
 }
 
-fn wide_reads(rt: &impl Print) {
-    let start = fresh(b"\x3f\x80\x00\x00");
-    let got = start.read_f32(Order::Big, b"\x3f\x80\x00\x00");
-    let one = got.value;
-    let bits = floats::bits_of_single(one);
+fn wide_reads(rt: &impl Print) -> Result<(), Refusal> {
+    let start = Cursor::new(b"\x3f\x80\x00\x00")?;
+    let got = start.read_f32(Order::Big, b"\x3f\x80\x00\x00")?;
+    let bits = floats::bits_of_single(got.value);
     expect(rt, "read_f32", bits == 0x3f80_0000);
 
-    let start = fresh(b"\x00\x01\x02\x03\x04\x05\x06\x07");
-    let got = start.read_u64(Order::Big, b"\x00\x01\x02\x03\x04\x05\x06\x07");
+    let start = Cursor::new(b"\x00\x01\x02\x03\x04\x05\x06\x07")?;
+    let got = start.read_u64(Order::Big, b"\x00\x01\x02\x03\x04\x05\x06\x07")?;
     expect(rt, "read_u64", got.value == 0x0001_0203_0405_0607);
 
-    let start = fresh(b"\xfe\xff\xff\xff\xff\xff\xff\xff");
-    let got = start.read_i64(Order::Little, b"\xfe\xff\xff\xff\xff\xff\xff\xff");
+    let start = Cursor::new(b"\xfe\xff\xff\xff\xff\xff\xff\xff")?;
+    let got = start.read_i64(Order::Little, b"\xfe\xff\xff\xff\xff\xff\xff\xff")?;
     expect(rt, "read_i64", got.value == -2);
 
-    let start = fresh(b"\x3f\xf0\x00\x00\x00\x00\x00\x00");
-    let got = start.read_f64(Order::Big, b"\x3f\xf0\x00\x00\x00\x00\x00\x00");
-    let one = got.value;
-    let bits = floats::bits_of_double(one);
+    let start = Cursor::new(b"\x3f\xf0\x00\x00\x00\x00\x00\x00")?;
+    let got = start.read_f64(Order::Big, b"\x3f\xf0\x00\x00\x00\x00\x00\x00")?;
+    let bits = floats::bits_of_double(got.value);
     expect(rt, "read_f64", bits == 0x3ff0_0000_0000_0000);
+    Ok(())
 }
 
-fn fields(rt: &impl Print) {
-    let start = fresh(b"\xa5");
-    let got = start.read_bits(Order::Big, b"\xa5", 3);
+fn fields(rt: &impl Print) -> Result<(), Refusal> {
+    let start = Cursor::new(b"\xa5")?;
+    let got = start.read_bits(Order::Big, b"\xa5", 3)?;
     expect(rt, "read_bits", got.value == 5);
 
-    let start = fresh(b"\x8f");
-    let got = start.read_signed_bits(Order::Big, b"\x8f", 4);
+    let start = Cursor::new(b"\x8f")?;
+    let got = start.read_signed_bits(Order::Big, b"\x8f", 4)?;
     expect(rt, "read_signed_bits", got.value == -8);
+    Ok(())
 }
 
-fn counts(rt: &impl Print) {
-    let start = fresh(b"\x5a\xff");
+fn counts(rt: &impl Print) -> Result<(), Refusal> {
+    let start = Cursor::new(b"\x5a\xff")?;
 
     let left = start.bytes_remaining(Order::Big, b"\x5a\xff");
-    expect(rt, "bytes_remaining", left.value == 2);
+    expect(rt, "bytes_remaining", left == Ok(2));
 
     let left = start.unbuffered_bytes_remaining(Order::Big, b"\x5a\xff");
-    expect(rt, "unbuffered_bytes_remaining", left.value == 2);
+    expect(rt, "unbuffered_bytes_remaining", left == Ok(2));
 
     let left = start.bits_remaining(Order::Big, b"\x5a\xff");
-    expect(rt, "bits_remaining", left.value == 16);
+    expect(rt, "bits_remaining", left == Ok(16));
 
     let more = start.has_bits_remaining(Order::Big, b"\x5a\xff", 16);
-    expect(rt, "has_bits_remaining", more.value);
+    expect(rt, "has_bits_remaining", more == Ok(true));
 
-    let start = fresh(b"");
+    let start = Cursor::new(b"")?;
     let none = start.is_empty(Order::Big, b"");
-    expect(rt, "is_empty", none.value);
+    expect(rt, "is_empty", none == Ok(true));
 
-    let start = fresh(b"\x5a\xff");
+    let start = Cursor::new(b"\x5a\xff")?;
     let whole = start.byte_aligned(Order::Big, b"\x5a\xff");
-    expect(rt, "byte_aligned", whole.value);
+    expect(rt, "byte_aligned", whole == Ok(true));
+    Ok(())
 }
 
-fn bytes(rt: &impl Print) {
-    let start = fresh(b"\x01\x02\x03");
+fn bytes(rt: &impl Print) -> Result<(), Refusal> {
+    let start = Cursor::new(b"\x01\x02\x03")?;
     let mut two = [0u8; 2];
 
     let got = start.read_bytes(Order::Big, b"\x01\x02\x03", &mut two);
     expect(rt, "read_bytes", two[1] == 2);
-    expect(rt, "read_bytes", got.refusal == 0);
+    expect(rt, "read_bytes", got.is_ok());
+    Ok(())
 }
 
-fn manual(rt: &impl Print) {
-    let start = fresh(b"\xa5\x01");
+fn manual(rt: &impl Print) -> Result<(), Refusal> {
+    let start = Cursor::new(b"\xa5\x01")?;
 
     let moved = start.refill_lookahead(Order::Big, b"\xa5\x01");
-    expect(rt, "refill_lookahead", moved.refusal == 0);
-    let full = moved.cursor;
+    expect(rt, "refill_lookahead", moved.is_ok());
+    let full = moved?;
 
     let ahead = full.lookahead_bits(Order::Big, b"\xa5\x01");
-    expect(rt, "lookahead_bits", ahead.value == 16);
+    expect(rt, "lookahead_bits", ahead == Ok(16));
 
     let seen = full.peek(Order::Big, b"\xa5\x01", 4);
-    expect(rt, "peek", seen.value == 10);
+    expect(rt, "peek", seen == Ok(10));
 
     let moved = full.consume(Order::Big, b"\xa5\x01", 4);
-    expect(rt, "consume", moved.refusal == 0);
+    expect(rt, "consume", moved.is_ok());
+    Ok(())
 }
 
-fn remainders(rt: &impl Print) {
-    let start = fresh(b"\x5a\xff");
-    let three = start.read_bits(Order::Big, b"\x5a\xff", 3);
+fn remainders(rt: &impl Print) -> Result<(), Refusal> {
+    let start = Cursor::new(b"\x5a\xff")?;
+    let three = start.read_bits(Order::Big, b"\x5a\xff", 3)?;
     let behind = three.cursor;
 
     let rest = behind.remainder(Order::Big, b"\x5a\xff");
     expect(rt, "remainder", rest.len() == 1);
 
-    let before = behind.partial(Order::Big, b"\x5a\xff");
+    let before = behind.partial(Order::Big, b"\x5a\xff")?;
     expect(rt, "partial", before.partial_byte == 0x1a);
+    Ok(())
 }
 
-fn ends(rt: &impl Print) {
-    let start = fresh(b"\x5a\xff");
+fn ends(rt: &impl Print) -> Result<(), Refusal> {
+    let start = Cursor::new(b"\x5a\xff")?;
 
-    let moved = start.lower_end(Order::Big, b"\x5a\xff", 8);
-    let cut = moved.cursor;
+    let cut = start.lower_end(Order::Big, b"\x5a\xff", 8)?;
     let left = cut.bits_remaining(Order::Big, b"\x5a\xff");
-    expect(rt, "lower_end", left.value == 8);
+    expect(rt, "lower_end", left == Ok(8));
+    Ok(())
 }
 
-fn borrowed(rt: &impl Print) {
-    let start = fresh(b"\xa5\x01");
+fn borrowed(rt: &impl Print) -> Result<(), Refusal> {
+    let start = Cursor::new(b"\xa5\x01")?;
 
     let moved = lent::refilled(start, Order::Big, b"\xa5\x01");
-    expect(rt, "inplace::refill_lookahead", moved.refusal == 0);
-    let full = moved.cursor;
+    expect(rt, "inplace::refill_lookahead", moved.is_ok());
+    let full = moved?;
 
     let seen = lent::peeked(full, Order::Big, b"\xa5\x01", 4);
-    expect(rt, "inplace::peek", seen.value == 10);
+    expect(rt, "inplace::peek", seen == Ok(10));
 
     let moved = lent::consumed(full, Order::Big, b"\xa5\x01", 17);
-    expect(rt, "inplace::consume", moved.refusal == 10);
+    expect(rt, "inplace::consume", moved == Err(Refusal::PastLookahead));
 
     let moved = lent::lowered(start, Order::Big, b"\xa5\x01", 17);
-    expect(rt, "inplace::lower_end", moved.refusal == 13);
+    expect(rt, "inplace::lower_end", moved == Err(Refusal::BadEnd));
+    Ok(())
 }
 
-fn remainder_records(rt: &impl Print) {
-    let start = fresh(b"\x5a\xff");
-    let three = start.read_bits(Order::Big, b"\x5a\xff", 3);
+fn remainder_records(rt: &impl Print) -> Result<(), Refusal> {
+    let start = Cursor::new(b"\x5a\xff")?;
+    let three = start.read_bits(Order::Big, b"\x5a\xff", 3)?;
     let behind = three.cursor;
 
     let rest = lent::left(behind, Order::Big, b"\x5a\xff");
@@ -227,17 +230,18 @@ fn remainder_records(rt: &impl Print) {
     expect(rt, "Remainder::partial_byte", rest.partial_byte == 0x1a);
 
     expect(rt, "Remainder::data", rest.length == 1);
+    Ok(())
 }
 
-fn writes(rt: &impl Print) {
-    let blank = blank();
+fn writes(rt: &impl Print) -> Result<(), Refusal> {
+    let blank = Writer::new(b"")?;
     let mut out = [0u8; 8];
 
     let made = Writer::new(&out);
-    expect(rt, "Writer::new", made.refusal == 0);
+    expect(rt, "Writer::new", made.is_ok());
 
     let wrote = blank.write_bit(Order::Big, &mut out, true);
-    expect(rt, "write_bit", wrote.refusal == 0);
+    expect(rt, "write_bit", wrote.is_ok());
 
     let _wrote = blank.write_u8(Order::Big, &mut out, 0x5a);
     expect(rt, "write_u8", out[0] == 0x5a);
@@ -256,15 +260,16 @@ fn writes(rt: &impl Print) {
 
     let _wrote = blank.write_i32(Order::Big, &mut out, -2);
     expect(rt, "write_i32", out[3] == 0xfe);
+    Ok(())
 }
 
-fn wide_writes(rt: &impl Print) {
-    let blank = blank();
+fn wide_writes(rt: &impl Print) -> Result<(), Refusal> {
+    let blank = Writer::new(b"")?;
     let mut out = [0u8; 8];
 
     let one = floats::single_of_bits(0x3f80_0000);
     let wrote = blank.write_f32(Order::Big, &mut out, one);
-    expect(rt, "write_f32", wrote.refusal == 16);
+    expect(rt, "write_f32", wrote == Err(Refusal::RetiredKind));
 
     let _wrote = blank.write_u64(Order::Big, &mut out, 0x0001_0203_0405_0607);
     expect(rt, "write_u64", out[7] == 7);
@@ -275,34 +280,36 @@ fn wide_writes(rt: &impl Print) {
     let one = floats::double_of_bits(0x3ff0_0000_0000_0000);
     let _wrote = blank.write_f64(Order::Big, &mut out, one);
     expect(rt, "write_f64", out[1] == 0xf0);
+    Ok(())
 }
 
-fn field_writes(rt: &impl Print) {
-    let blank = blank();
+fn field_writes(rt: &impl Print) -> Result<(), Refusal> {
+    let blank = Writer::new(b"")?;
     let mut out = [0u8; 8];
 
     let wrote = blank.write_bits(Order::Big, &mut out, 3, 5);
-    expect(rt, "write_bits", wrote.refusal == 0);
-    let next = wrote.writer;
+    expect(rt, "write_bits", wrote.is_ok());
+    let next = wrote?;
 
     let over = next.unaligned_bits(&out);
-    expect(rt, "unaligned_bits", over.value == 3);
+    expect(rt, "unaligned_bits", over == Ok(3));
 
     let wrote = next.flush(Order::Big, &mut out);
     expect(rt, "flush", out[0] == 0xa0);
-    let last = wrote.writer;
+    let last = wrote?;
 
     let wrote = last.write_signed_bits(Order::Big, &mut out, 8, -1);
     expect(rt, "write_signed_bits", out[1] == 0xff);
-    let last = wrote.writer;
+    let last = wrote?;
 
     let _wrote = last.write_bytes(Order::Big, &mut out, b"\x01\x02");
     expect(rt, "write_bytes", out[3] == 2);
+    Ok(())
 }
 
 fn floats_and_signs(rt: &impl Print) {
     let eight = sign::sign_extend(8, 4);
-    expect(rt, "sign_extend", eight.value == -8);
+    expect(rt, "sign_extend", eight == Ok(-8));
 
     let nan = floats::single_of_bits(0x7fa0_0001);
     let bits = floats::bits_of_single(nan);
@@ -326,9 +333,9 @@ fn floats_and_signs(rt: &impl Print) {
     expect(rt, "double_of_single", bits == 0x36a0_0000_0000_0000);
 }
 
-fn typed_values(rt: &impl Print) {
-    let start = fresh(b"\xfe");
-    let blank = blank();
+fn typed_values(rt: &impl Print) -> Result<(), Refusal> {
+    let start = Cursor::new(b"\xfe")?;
+    let blank = Writer::new(b"")?;
     let mut out = [0u8; 8];
 
     let two = typed::typed_of_bits(Kind::Signed, 0xffff_ffff_ffff_fffe);
@@ -346,31 +353,26 @@ fn typed_values(rt: &impl Print) {
     let _wrote = typed::write_typed(blank, Order::Big, &mut out, two, 8);
     expect(rt, "write_typed", out[0] == 0xfe);
 
-    let read = typed::read_typed(start, Order::Big, b"\xfe", Kind::Signed, 8);
-    expect(rt, "read_typed", bits_read(read) == 0xffff_ffff_ffff_fffe);
+    let read = typed::read_typed(start, Order::Big, b"\xfe", Kind::Signed, 8)?;
+    let bits = typed::bits_of_typed(read.value);
+    expect(rt, "read_typed", bits == 0xffff_ffff_ffff_fffe);
+    Ok(())
 }
 
-// The bits of the value that a typed read answered, 0 where it was refused.
-fn bits_read(read: TypedRead) -> u64 {
-    match read {
-        TypedRead::Done(value, _next) => typed::bits_of_typed(value),
-        TypedRead::Refused(_refusal, _came) => 0,
-    }
-}
-
-fn layouts(rt: &impl Print) {
-    let start = fresh(b"\xbf");
+fn layouts(rt: &impl Print) -> Result<(), Refusal> {
+    let start = Cursor::new(b"\xbf")?;
     let mut out = [0u8; 8];
     let mut results = [0u64; 2];
 
     let compiled = layout::compile(b"\x00\x03\x01\x05", &mut out);
-    expect(rt, "compile", compiled.length == 3);
+    expect(rt, "compile", compiled == Ok(3));
 
-    let number = layout::check(b"\x00\x43\x85");
-    expect(rt, "check", number == 0);
+    let checked = layout::check(b"\x00\x43\x85");
+    expect(rt, "check", checked == Ok(()));
 
-    let _ran = plan::run(start, Order::Big, b"\xbf", b"\x00\x43\x85", &mut results);
-    expect(rt, "run", results[0] == 5);
+    let ran = plan::run(start, Order::Big, b"\xbf", b"\x00\x43\x85", &mut results);
+    expect(rt, "run", ran.is_ok() && results[0] == 5);
+    Ok(())
 }
 
 // The estimate 5,2460523.64817,0,-1.440,0.012,3.
@@ -385,73 +387,75 @@ fn estimate() -> Record {
     }
 }
 
-fn records(rt: &impl Print) {
-    let blank = blank();
+fn records(rt: &impl Print) -> Result<(), Refusal> {
+    let blank = Writer::new(b"")?;
     let mut out = [0u8; 12];
     let found = estimate();
 
     let wrote = strip::pack_record(blank, &mut out, found);
     expect(rt, "pack_record", out[2] == 0x5e);
-    let last = wrote.writer;
+    let last = wrote?;
     let _ended = last.flush(Order::Big, &mut out);
 
-    let start = fresh(&out);
-    let read = strip::read_record(start, &out);
-    let found = read.found;
-    expect(rt, "read_record", found.magnitude == -1440);
+    let start = Cursor::new(&out)?;
+    let read = strip::read_record(start, &out)?;
+    expect(rt, "read_record", read.value == found);
+    Ok(())
 }
 
-fn lists(rt: &impl Print) {
+fn lists(rt: &impl Print) -> Result<(), Refusal> {
     let mut out = [0u8; 12];
     let mut list = [5u64, 246_052_364_817, 0, 0, 12, 3];
 
     let packed = strip::pack_strip(&list, 1, &mut out);
-    expect(rt, "pack_strip", packed.length == 12);
+    expect(rt, "pack_strip", packed == Ok(12));
 
-    let read = strip::read_strip(&out, &mut list);
+    let read = strip::read_strip(&out, &mut list)?;
     expect(rt, "read_strip", read.tail_good);
+    Ok(())
 }
 
 // A message of a header byte, a strip of 12 bytes (the worked record of docs/FORMAT.md) and words behind it.
-fn wrapped(rt: &impl Print) {
+fn wrapped(rt: &impl Print) -> Result<(), Refusal> {
     let message = *b"\x7e\x00\x00\x5e\x52\x77\x48\x84\x5f\x4c\x00\x61\x80dome 4, done";
-    let start = fresh(&message);
+    let start = Cursor::new(&message)?;
 
     // The header, and then the end put behind the strip: at bit 8 + 8 * 12.
-    let header = start.read_u8(Order::Big, &message);
+    let header = start.read_u8(Order::Big, &message)?;
     expect(rt, "wrapped strip", header.value == 0x7e);
     let within = header.cursor;
-    let moved = within.lower_end(Order::Big, &message, 104);
-    let cut = moved.cursor;
+    let cut = within.lower_end(Order::Big, &message, 104)?;
 
     // Records, until 9 is answered: without the end the words would be the second one.
-    let first = strip::read_record(cut, &message);
-    let found = first.found;
-    expect(rt, "wrapped strip", found.date == 246_052_364_817);
+    let first = strip::read_record(cut, &message)?;
+    expect(rt, "wrapped strip", first.value.date == 246_052_364_817);
     let behind = first.cursor;
     let second = strip::read_record(behind, &message);
-    expect(rt, "wrapped strip", second.refusal == 9);
+    expect(rt, "wrapped strip", second == Err(Refusal::TooFew));
 
     // The rest up to the end: no whole byte, and the tail's seven bits, which are 0.
     let rest = behind.remainder(Order::Big, &message);
     expect(rt, "wrapped strip", rest.len() == 0);
-    let tail = behind.partial(Order::Big, &message);
+    let tail = behind.partial(Order::Big, &message)?;
     expect(rt, "wrapped strip", tail.partial_bits == 7);
     expect(rt, "wrapped strip", tail.partial_byte == 0);
 
     // The words: the message from byte 104 / 8 on.
     let words = &message[13..];
     expect(rt, "wrapped strip", words[0] == b'd');
+    Ok(())
 }
 
 fn vetted(rt: &impl Print) {
     let zeros = [0u8; 12];
     let verdict = vetting::vet_strip(&zeros);
-    let rule = match verdict {
-        Verdict::Broken(_number, rule) => rule,
-        _ => 0,
+    let fault = Verdict::Broken {
+        record: 1,
+        rule: Rule::Error,
     };
-    expect(rt, "vet_strip", rule == 3);
+    expect(rt, "vet_strip", verdict == Ok(fault));
+
+    expect(rt, "Rule::number", Rule::Error.number() == 3);
 }
 
 fn tables(rt: &impl Print) {
@@ -459,18 +463,17 @@ fn tables(rt: &impl Print) {
     let mut strip = *b"\x00\x00\x5e\x52\x77\x48\x84\x5f\x4c\x00\x61\x80";
     let found = estimate();
 
-    let number = rows::write_row(found, &mut table);
-    expect(rt, "write_row", number == 0);
+    let wrote = rows::write_row(found, &mut table);
+    expect(rt, "write_row", wrote == Ok(()));
 
     let read = rows::read_row(&table);
-    let found = read.found;
-    expect(rt, "read_row", found.magnitude == -1440);
+    expect(rt, "read_row", read == Ok(found));
 
     let turned = rows::strip_to_rows(&strip, &mut table);
-    expect(rt, "strip_to_rows", turned.length == 18);
+    expect(rt, "strip_to_rows", turned == Ok(Some(18)));
 
     let packed = rows::rows_to_strip(&table, &mut strip);
-    expect(rt, "rows_to_strip", packed.length == 12);
+    expect(rt, "rows_to_strip", packed == Ok(Some(12)));
 }
 
 fn lines(rt: &impl Print) {
@@ -478,40 +481,39 @@ fn lines(rt: &impl Print) {
     let found = estimate();
 
     let read = line::read_line(b"5,2460523.64817,0,-1.440,0.012,3\n");
-    let named = read.record;
-    expect(rt, "read_line", named.magnitude == -1440);
+    expect(rt, "read_line", read == Ok(found));
 
     let wrote = listing::write_line(found, &mut out);
-    expect(rt, "write_line", wrote.length == 33);
+    expect(rt, "write_line", wrote == Ok(33));
 }
 
 fn texts(rt: &impl Print) {
     let mut out = [0u8; 64];
 
     let listed = text::list_text(b"\x00", &mut out);
-    expect(rt, "list_text", listed.length == 40);
+    expect(rt, "list_text", listed == Ok(40));
 
     let packed = text::pack_text(b"star,date\n", &mut out);
-    expect(rt, "pack_text", packed.line == 1);
+    expect(rt, "pack_text", packed == Err(PackError::BadLine(1)));
 }
 
 fn whole_jobs(rt: &impl Print) {
     let mut out = [0u8; 64];
 
     let answer = jobs::list_answer(b"\x00", &mut out);
-    expect(rt, "list_answer", answer.length == 40);
+    expect(rt, "list_answer", answer == Ok(40));
 
     let answer = jobs::pack_answer(b"star,date\n", &mut out);
-    expect(rt, "pack_answer", answer.length == 11);
+    expect(rt, "pack_answer", answer == Ok(11));
 
     let answer = jobs::rows_answer(b"\x00", &mut out);
-    expect(rt, "rows_answer", answer.length == 9);
+    expect(rt, "rows_answer", answer == Ok(9));
 
     let answer = jobs::pack_rows_answer(b"star", &mut out);
-    expect(rt, "pack_rows_answer", answer.length == 9);
+    expect(rt, "pack_rows_answer", answer == Ok(9));
 
     let answer = jobs::check_answer(b"\x00", &mut out);
-    expect(rt, "check_answer", answer.length == 9);
+    expect(rt, "check_answer", answer == Ok(9));
 }
 
 fn hosts(rt: &impl Print) {

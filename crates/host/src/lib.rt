@@ -3,9 +3,10 @@
 #![tactic(auto)]
 
 ghost use Rattle.std.specs.Prelude.{◌≡◌, length};
+ghost use Rattle.bits.specs.Refusals.{number_of};
 ghost use Rattle.host.specs.Host.{order_of, host_refusal, host_value};
 
-use bits::{Order, refusals};
+use bits::{LONGEST, Order, Refusal};
 
 // The order by its number: 0 little, any other big.
 fn order_of(order: u32) -> Order
@@ -18,28 +19,39 @@ fn order_of(order: u32) -> Order
     }
 }
 
+// Tests a field of `width` bits at bit `place`: 1, 3 and 9.
+fn check(place: u64, width: u32, src: &[u8]) -> Result<(), Refusal>
+    ensures { number_of result ≡ host_refusal place width (length src.now) }
+{
+    if LONGEST < src.len() {
+        return Err(Refusal::TooLong);
+    }
+    if 64 < width {
+        return Err(Refusal::TooWide);
+    }
+    let bits = (8 * src.len()) as u64;
+    let w = width as u64;
+    if bits < w {
+        return Err(Refusal::TooFew);
+    }
+    if bits - w < place {
+        return Err(Refusal::TooFew);
+    }
+    Ok(())
+}
+
 // 0 where the field of `width` bits at bit `place` can be had, else 1 (slice too long), 3 (width above 64) or 9 (it ends past the slice).
+// The number is C's.
 //     let number = host::strip_refusal(1, 4, 21, b"\x00\x00\x5e");
 //     expect(b"strip_refusal", number == 9);
 #[unsafe(no_mangle)]
 pub extern "C" fn strip_refusal(order: u32, place: u64, width: u32, src: &[u8]) -> u32
     ensures { result ≡ host_refusal place width (length src.now) }
 {
-    if refusals::LONGEST < src.len() {
-        return refusals::TOO_LONG;
+    match check(place, width, src) {
+        Ok(()) => 0,
+        Err(refusal) => refusal.number(),
     }
-    if 64 < width {
-        return refusals::TOO_WIDE;
-    }
-    let bits = (8 * src.len()) as u64;
-    let w = width as u64;
-    if bits < w {
-        return refusals::TOO_FEW;
-    }
-    if bits - w < place {
-        return refusals::TOO_FEW;
-    }
-    refusals::DONE
 }
 
 // The field's value, or 0 where `strip_refusal` is not 0.
@@ -49,8 +61,8 @@ pub extern "C" fn strip_refusal(order: u32, place: u64, width: u32, src: &[u8]) 
 pub extern "C" fn strip_value(order: u32, place: u64, width: u32, src: &[u8]) -> u64
     ensures { result ≡ host_value order place width src.now }
 {
-    if strip_refusal(order, place, width, src) != refusals::DONE {
-        return 0;
+    match check(place, width, src) {
+        Ok(()) => words::inner::field_at(order_of(order), src, place as usize, width),
+        Err(_) => 0,
     }
-    words::inner::field_at(order_of(order), src, place as usize, width)
 }

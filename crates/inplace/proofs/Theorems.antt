@@ -6,8 +6,7 @@ use Rattle.bits.specs.declared.Order.{Order}
 use Rattle.bits.specs.Refusals.{done, if_done}
 use Rattle.bits.proofs.RefusalLaws.{if_refused}
 use Rattle.reader.specs.declared.Cursor.{Cursor}
-use Rattle.reader.specs.declared.Moved.{Moved}
-use Rattle.reader.specs.Answers.{consume_of, refill_of, lower_of, moved}
+use Rattle.reader.specs.Answers.{Moved, consume_of, refill_of, lower_of, moved}
 
 module _ {r : ℕ} {d : Cursor} (refused : r ≡ done → ⊥) where
   -- of any answer whose refusal decides on its cursor

@@ -8,21 +8,23 @@ use lib.Seq.{sets, length-sets}
 use lib.Dec.{eqb, ltb}
 use native.Mathlib.Omega.{arith}
 use borrow.Author.Tests.{lt-ltb, le-ltb, eqb-true}
-use Rattle.bits.specs.Refusals.{longest, done, too_long, no_room, or_else, first_refusal, if_done}
+use Rattle.std.specs.Prelude.{Result, Ok, Err}
+use Rattle.std.specs.Result.{IsOk}
+use Rattle.bits.specs.declared.Refusal.{Refusal}
+use Rattle.bits.specs.Refusals.{longest, done, too_long, no_room, or_else, first_refusal, if_done, LengthTold, length_told}
 use Rattle.bits.proofs.StoreLaws.{front_take}
-use Rattle.text.specs.declared.Listed.{Listed}
+use Rattle.bits.proofs.RefusalLaws.{number_ne}
 use Rattle.text.specs.Text.{text_of}
 use Rattle.text.specs.Answers.{list_refusal, list_of, list_out}
-use Rattle.jobs.specs.declared.Answered.{Answered}
 use Rattle.jobs.specs.Jobs.{most_taken, too_long_said, list_answer}
 use Rattle.jobs.specs.Answers.{answer_refusal, answered_of, answered_out}
 
 -- an answer of two parts
-abbrev pub answered : ℕ → ℕ → Answered
+abbrev pub answered : ℕ → ℕ → LengthTold
 answered e n = record { refusal = e; length = n }
 
 -- what a job answers and leaves for an answer x
-abbrev pub Done : List ℕ → List ℕ → Answered → List ℕ → Type 0
+abbrev pub Done : List ℕ → List ℕ → LengthTold → List ℕ → Type 0
 Done x out r last = (r ≡ answered_of x (length out)) × (last ≡ answered_out x out)
 
 module _ (x out : List ℕ) where
@@ -42,18 +44,28 @@ module _ (x out : List ℕ) where
     unfolding answered_of answered_out answer_refusal first_refusal or_else
     has_room h e f = rw (le-ltb longest (length out) short, le-ltb (length out) (length x) h) (ap (answered done) e, f)
 
-    -- where there is room, the answer is what stands at the front, as long as it is told
-    pub whole_answer : length x ≤ length out → {r : Answered} {last : List ℕ} → Done x out r last
-        → (r.length ≤ length last) × (take r.length last ≡ x)
-    whole_answer h {r} {last} (e, f) =
-        let (told, made) = has_room h refl refl in
-        let n : r.length ≡ length x = ap (λ (a : Answered). a.length) (e ∙ sym told) in
-        let put : last ≡ sets out 0 x = f ∙ sym made in
-        let l : length last ≡ length out = ap length put ∙ length-sets out 0 x in
-        (omega arith, ap₂ (λ (k : ℕ) (u : List ℕ). take k u) n put ∙ front_take x out h)
+    -- where there is room, the job is not refused
+    module _ (h : length x ≤ length out) (r : Result ℕ Refusal) (e : length_told r ≡ answered_of x (length out)) where
+      told_done : length_told r ≡ answered done (length x)
+      told_done = e ∙ sym (has_room h {last = sets out 0 x} refl refl).0
+
+      pub told_whole : IsOk r
+      told_whole = by r told_done
+        where
+          by : (r : Result ℕ Refusal) → length_told r ≡ answered done (length x) → IsOk r
+          by (Ok n) d = refl
+          by (Err f) d = absurd (number_ne f (ap (λ (a : LengthTold). a.refusal) d))
+
+      -- and the answer is what stands at the front, as long as it is told
+      pub whole_answer : {last : List ℕ} → last ≡ answered_out x out → {n : ℕ} → r ≡ Ok n → (n ≤ length last) × (take n last ≡ x)
+      whole_answer {last} f {n} k =
+          let size : n ≡ length x = ap (λ (a : LengthTold). a.length) (sym (ap length_told k) ∙ told_done) in
+          let put : last ≡ sets out 0 x = f ∙ sym (has_room h {n = length x} {last = sets out 0 x} refl refl).1 in
+          let l : length last ≡ length out = ap length put ∙ length-sets out 0 x in
+          (omega arith, ap₂ (λ (k : ℕ) (u : List ℕ). take k u) size put ∙ front_take x out h)
 
 -- a call that gives x where the refusals of x are none, and else the refusal alone, does the job
-pub done_alike : {A : Type 0} (told : A → Answered) (out : List ℕ) {x made last : List ℕ} {e : ℕ} {a b r : A}
+pub done_alike : {A : Type 0} (told : A → LengthTold) (out : List ℕ) {x made last : List ℕ} {e : ℕ} {a b r : A}
     → e ≡ answer_refusal x (length out) → made ≡ x → told a ≡ answered done (length made) → told b ≡ answered e 0
     → r ≡ if_done e a b → last ≡ if_done e (sets out 0 made) out → Done x out (told r) last
 unfolding answered_of answered_out
@@ -66,6 +78,11 @@ done_alike told out {x} {made} {last} {e} {a} {b} {r} p same da db er el =
 
 -- ---- the list job
 
+-- the outcome of listing is told as a job's
+pub listed_answered : (r : Result ℕ Refusal) → length_told r ≡ answered (length_told r).refusal (length_told r).length
+listed_answered (Ok n) = refl
+listed_answered (Err e) = refl
+
 module _ (s : List ℕ) where
   pub list_long : most_taken < length s → list_answer s ≡ too_long_said
   unfolding list_answer
@@ -77,9 +94,9 @@ module _ (s : List ℕ) where
     list_short = rw (le-ltb most_taken (length s) h)
 
     -- the text's own answer is the job's
-    pub list_done : (out : List ℕ) {l : Listed} {last : List ℕ} → l ≡ list_of s (length out) → last ≡ list_out s out
+    pub list_done : (out : List ℕ) {l : LengthTold} {last : List ℕ} → l ≡ list_of s (length out) → last ≡ list_out s out
         → Done (list_answer s) out (answered l.refusal l.length) last
     unfolding list_of list_out list_refusal answered_of answered_out answer_refusal first_refusal or_else
     list_done out e f =
         let k : ltb longest (length s) ≡ false = le-ltb longest (length s) (omega arith) in
-        rw list_short (ap (λ (x : Listed). answered x.refusal x.length) e ∙ rw k, f ∙ rw k)
+        rw list_short (ap (λ (x : LengthTold). answered x.refusal x.length) e ∙ rw k, f ∙ rw k)

@@ -17,10 +17,8 @@ use Rattle.line.specs.Grammar.{Parts, meant, unrounded, Good}
 use Rattle.line.proofs.Theorems.{dates_in_order}
 use Rattle.strip.specs.Strip.{count_of, records_of, tail_good}
 use Rattle.strip.proofs.PackedLaws.{records_count}
-use Rattle.vetting.specs.declared.Verdict.{Verdict}
-use Rattle.vetting.specs.declared.Verdict.TheVariants.{Fine, Broken, BadTail, Refused}
 use Rattle.vetting.specs.Rules.{Keeps, AllKeep, AtFault}
-use Rattle.vetting.specs.Verdicts.{verdict_on, verdict_of}
+use Rattle.vetting.specs.Verdicts.{Verdict, Fine, Broken, BadTail, Refused, verdict_on, verdict_of}
 use Rattle.vetting.proofs.RuleLaws.{date_above, to_keeps, from_keeps}
 use Rattle.vetting.proofs.Theorems.{verdict_is, accepted_exactly, bad_tail_exactly, fault_exactly}
 use Rattle.text.specs.Text.{bad_tail}

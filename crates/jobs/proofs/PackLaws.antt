@@ -11,16 +11,25 @@ use Rattle.bits.specs.Refusals.{longest, too_long, bad_line, no_room, ◌⟶◌,
 use Rattle.bits.proofs.TestLaws.{both, by_test}
 use Rattle.strip.specs.Strip.{strip_bytes}
 use Rattle.strip.proofs.StripLaws.{length_strip}
-use Rattle.text.specs.declared.Packed.{Packed}
 use Rattle.text.specs.Text.{header, headed, body_of, bad_line_of}
-use Rattle.text.specs.Answers.{pack_refusal, pack_of, pack_out}
+use Rattle.text.specs.Answers.{Packed, pack_refusal, pack_of, pack_out}
 use Rattle.jobs.specs.Jobs.{most_taken, too_long_said, bad_line_said, pack_answer}
 use Rattle.jobs.specs.Answers.{answer_refusal, answered_of, answered_out}
 use Rattle.jobs.proofs.AnswerLaws.{answered, Done, out_long}
 use Rattle.jobs.proofs.MessageLaws.{bad_line_bytes, bad_line_is, numbered_few}
 use Rattle.jobs.proofs.RoomLaws.{body_long}
 
--- no answer is refused as a bad line is
+-- no answer is refused as a bad row is
+pub refusal_few : (x : List ℕ) (len : ℕ) → answer_refusal x len ≤ no_room
+unfolding answer_refusal first_refusal or_else
+refusal_few x len = by (ltb longest len) (ltb len (length x))
+  where
+    by : (a b : Bool) → or_else (a ⟶ too_long) (b ⟶ no_room) ≤ no_room
+    by true b = omega arith
+    by false true = omega arith
+    by false false = omega arith
+
+-- or as a bad line is
 never_bad : (x : List ℕ) (len : ℕ) → answer_refusal x len ≡ bad_line → ⊥
 unfolding answer_refusal first_refusal or_else
 never_bad x len = by (ltb longest len) (ltb len (length x))
@@ -79,6 +88,16 @@ module _ (t : List ℕ) where
           let bad : good ≡ false = by_test good (λ g. absurd (never_bad _ _ (sym (good_refusal (length out) g) ∙ r))) (λ g. g) in
           let line : p.line ≡ bad_line_of t = ap (λ (x : Packed). x.line) e ∙ rw r in
           (pack_bad bad ∙ ap bad_line_said (sym line), rw r)
+
+      -- what tells no line tells no bad line
+      pub no_line : p.line ≡ 0 → p.refusal ≡ bad_line → ⊥
+      unfolding pack_of
+      no_line l z =
+          let r : pack_refusal t (length out) ≡ bad_line = sym refusal_is ∙ z in
+          let line : p.line ≡ bad_line_of t = ap (λ (x : Packed). x.line) e ∙ rw r in
+          by_test (headed header t)
+          (λ a. let n : bad_line_of t ≡ length (body_of t).records + 2 = rw a in omega arith)
+          (λ a. let n : bad_line_of t ≡ 1 = rw a in omega arith)
 
       module _ {last : List ℕ} (f : last ≡ pack_out t out) where
         -- a good text's answer is the job's

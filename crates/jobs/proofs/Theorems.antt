@@ -14,9 +14,8 @@ use Rattle.record.specs.Record.{record_bits}
 use Rattle.strip.specs.Strip.{strip_bytes, count_of, records_of, tail_good}
 use Rattle.strip.proofs.StripLaws.{length_strip, strip_same}
 use Rattle.strip.proofs.Theorems.{strip_there_and_back}
-use Rattle.vetting.specs.declared.Verdict.TheVariants.{Fine}
 use Rattle.vetting.specs.Rules.{AllKeep, AtFault}
-use Rattle.vetting.specs.Verdicts.{verdict_of}
+use Rattle.vetting.specs.Verdicts.{Fine, verdict_of}
 use Rattle.vetting.proofs.Theorems.{strip_fine}
 use Rattle.rows.specs.Row.{columns_at, in_range, row_length, row_bits}
 use Rattle.rows.specs.Rows.{rows_bytes, strip_rows, row_count, records_of_rows}

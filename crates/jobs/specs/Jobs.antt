@@ -3,9 +3,7 @@ use Rattle.std.specs.Prelude.{ℕ, cond, ◌&&◌, List, [], ◌∷◌, ◌++◌
 use Rattle.digits.specs.Digits.{ascii, newline}
 use Rattle.print.specs.Print.{whole_of}
 use Rattle.strip.specs.Strip.{strip_bytes, records_of, tail_good}
-use Rattle.vetting.specs.declared.Verdict.{Verdict}
-use Rattle.vetting.specs.declared.Verdict.TheVariants.{Fine, Broken, BadTail, Refused}
-use Rattle.vetting.specs.Verdicts.{verdict_of}
+use Rattle.vetting.specs.Verdicts.{Verdict, Fine, Broken, BadTail, Refused, verdict_of}
 use Rattle.rows.specs.Rows.{rows_bytes, rows_whole, records_of_rows, first_bad}
 use Rattle.text.specs.Text.{header, bad_tail, text_of, headed, body_of, bad_line_of}
 

@@ -8,7 +8,7 @@ use native.Mathlib.Omega.{arith}
 use lib.ListN.{length, drop, get_or}
 use lib.Seq.{drop-cons, drop-length}
 use lib.Dec.{eqb}
-use borrow.Author.Tests.{leb-true, eqb-true, ltb-true, le-leb, eq-eqb, ne_eqb, lt-ltb, le-ltb}
+use borrow.Author.Tests.{leb-true, eqb-true, ltb-true, le-leb, eq-eqb, ne_eqb, lt-ltb}
 use Rattle.layout.specs.Plan.{count, refill, wide, ends}
 use Rattle.layout.specs.Check.{fits, ends_wide, at_field, in_wide}
 use Rattle.layout.specs.Take.{checked, closed, at_on, wide_on}
@@ -36,9 +36,6 @@ module _ (low g b : ℕ) (again on : Bool) where
   checked_fit e f = rw (ne_eqb b 0 e, f)
 
 module _ (last : Bool) (n : ℕ) (on : Bool) where
-  pub closed-full : last ≡ true → n ≡ 0 → closed last n on ≡ false
-  closed-full e z = let h : n ≤ 0 = omega arith in rw (e, le-ltb 0 n h)
-
   pub closed_on : last ≡ true → (n ≡ 0 → ⊥) → closed last n on ≡ on
   closed_on e z = let h : 0 < n = omega arith in rw (e, lt-ltb 0 n h)
 

@@ -1,11 +1,10 @@
 -- Laws of layouts: how long their bytes are, which are good, and the field at an index.
-use Prim.Native.Nat.{ℕ, suc, ◌+◌, ◌*◌, ◌%◌, ◌<◌, ◌≤◌}
-use mathlib.Core.Path.{◌≡◌, refl, ap, ap₂, ◌∙◌}
+use Prim.Native.Nat.{ℕ, ◌*◌, ◌%◌, ◌<◌, ◌≤◌}
+use mathlib.Core.Path.{◌≡◌, refl, ap, ◌∙◌}
 use mathlib.Core.Bool.{true, false, ◌&&◌}
-use mathlib.Core.List.{List, [], ◌∷◌}
+use mathlib.Core.List.{List, [], ◌∷◌, ◌++◌}
 use native.Mathlib.Omega.{arith}
-use lib.ListN.{length, drop, get_or}
-use lib.Seq.{drop-cons, drop-length}
+use lib.ListN.{length, get_or}
 use borrow.Author.Tests.{leb-true, eqb-true, le-leb, lt-leb, eq-eqb, ne_eqb}
 use Rattle.layout.specs.Layout.{Item, item, items_of, good_item, good_items, are_layout, is_layout, bits_of}
 use Rattle.layout.specs.Bytes.{bytes_of}
@@ -74,24 +73,39 @@ module _ (s : List ℕ) where
         let few : length (items_of s) ≤ 64 = omega (arith, length_items s h) in
         rw (eq-eqb (length s % 2) 0 h, le-leb (length (items_of s)) 64 few)
 
--- ---- the field at an index of the bytes
+-- ---- two bytes are a field
 
-pub items_at : (s : List ℕ) (i : ℕ) → i + 1 < length s → items_of (drop i s) ≡ item (get_or s i 0) (get_or s (i + 1) 0) ∷ items_of (drop (i + 2) s)
+-- a slice of two bytes
+two_bytes : (x : List ℕ) → length x ≡ 2 → x ≡ get_or x 0 0 ∷ get_or x 1 0 ∷ []
+two_bytes [] h = absurd (omega arith)
+two_bytes (k ∷ []) h = absurd (omega arith)
+two_bytes (k ∷ w ∷ []) h = refl
+two_bytes (k ∷ w ∷ b ∷ s) h = absurd (omega arith)
+
+-- x is the first field's bytes of s, and t the others'
+pub record FirstOf (s x t : List ℕ) : Type 0 where
+  pub joined : s ≡ x ++ t
+  pub two : length x ≡ 2
+
+-- so it is where x is the first piece of n bytes, and n is 2
+pub first_of : {n : ℕ} {s x t : List ℕ} → (s ≡ x ++ t) × (length x ≡ n) → n ≡ 2 → FirstOf s x t
+first_of (joined, long) e = record { joined = joined; two = long ∙ e }
+
+module _ {s x t : List ℕ} (first : FirstOf s x t) where
+  pub items_cons : items_of s ≡ item (get_or x 0 0) (get_or x 1 0) ∷ items_of t
+  unfolding items_of
+  items_cons = ap items_of (first.joined ∙ ap (λ (l : List ℕ). l ++ t) (two_bytes x first.two))
+
+  pub good_first : good_items (items_of s) ≡ (good_item (item (get_or x 0 0) (get_or x 1 0)) && good_items (items_of t))
+  unfolding good_items
+  good_first = ap good_items items_cons
+
+pub items_none : (s : List ℕ) → length s < 2 → items_of s ≡ []
 unfolding items_of
-items_at s i h =
-    let x : suc i ≡ i + 1 = omega arith in
-    let y : suc (suc i) ≡ i + 2 = omega arith in
-    ap items_of (drop-cons s i 0 (omega arith) ∙ ap (λ (l : List ℕ). get_or s i 0 ∷ l) (drop-cons s (suc i) 0 (omega arith)))
-    ∙ ap₂ (λ (m n : ℕ). item (get_or s i 0) (get_or s m 0) ∷ items_of (drop n s)) x y
+items_none [] h = refl
+items_none (k ∷ []) h = refl
+items_none (k ∷ w ∷ s) h = absurd (omega arith)
 
-pub items_end : (s : List ℕ) (i : ℕ) → i ≡ length s → items_of (drop i s) ≡ []
-unfolding items_of
-items_end s i e = rw (e, drop-length)
-
-pub good_at : (s : List ℕ) (i : ℕ) → i + 1 < length s → good_items (items_of (drop i s)) ≡ (good_item (item (get_or s i 0) (get_or s (i + 1) 0)) && good_items (items_of (drop (i + 2) s)))
+pub good_none : (s : List ℕ) → length s < 2 → good_items (items_of s) ≡ true
 unfolding good_items
-good_at s i h = ap good_items (items_at s i h)
-
-pub good_end : (s : List ℕ) (i : ℕ) → i ≡ length s → good_items (items_of (drop i s)) ≡ true
-unfolding good_items
-good_end s i e = ap good_items (items_end s i e)
+good_none s h = ap good_items (items_none s h)

@@ -1,11 +1,11 @@
 -- Writing steps: pieces that are written one after the other are written in one. Assumes nothing.
-use Prim.Native.Nat.{ℕ, suc, ◌+◌, ◌-◌, ◌*◌, ◌%◌, ◌<◌, ◌≤◌}
+use Prim.Native.Nat.{ℕ, suc, ◌+◌, ◌-◌, ◌*◌, ◌<◌, ◌≤◌}
 use mathlib.Core.Path.{◌≡◌, refl, sym, ap, ◌∙◌}
 use mathlib.Core.Bool.{true}
 use mathlib.Core.List.{List, [], ◌∷◌, ◌++◌}
 use native.Mathlib.Nat.{add-zero, add_assoc}
 use native.Mathlib.Omega.{arith}
-use lib.ListN.{length, drop, get_or, length-append}
+use lib.ListN.{length, get_or, length-append}
 use lib.Seq.{sets}
 use borrow.Author.Tests.{le-leb, lt-leb}
 use Rattle.bits.proofs.StoreLaws.{sets-append}
@@ -13,7 +13,7 @@ use Rattle.layout.specs.declared.inner.compiler.Put.{Put}
 use Rattle.layout.specs.Layout.{item, items_of, good_items, is_layout}
 use Rattle.layout.specs.Plan.{wide, takes, refilled}
 use Rattle.layout.specs.Known.{known}
-use Rattle.layout.proofs.LayoutLaws.{good_of, is_layout_of, items_at, items_end}
+use Rattle.layout.proofs.LayoutLaws.{good_of, is_layout_of, FirstOf, items_cons, items_none}
 use Rattle.layout.proofs.CompileLaws.{length_compiled}
 use Rattle.layout.proofs.SeamLaws.{known-le, known-append, takes-append, refilled-append}
 
@@ -60,39 +60,33 @@ module _ (k w : ℕ) where
 abbrev pub start : Put
 start = record { at = 0; known = 0 }
 
--- at byte i of the layout: whoever writes the other fields from p on has written them all
-pub record Left (layout out₀ : List ℕ) (i : ℕ) (p : Put) (out : List ℕ) : Type 0 where
-  pub pairs : length layout % 2 ≡ 0
-  pub short : length layout ≤ 128
-  pub even : i % 2 ≡ 0
+-- the bytes s of the layout are left: whoever writes their fields from p on has written them all
+pub record Left (layout out₀ s : List ℕ) (p : Put) (out : List ℕ) : Type 0 where
   pub low : p.known ≤ 56
-  pub near : p.at ≤ 2 * i
-  pub good : good_items (items_of (drop i layout)) ≡ true
-  pub others : (q : Put) (o : List ℕ) → Wrote p (takes (items_of (drop i layout))) out q o → Wrote start (takes (items_of layout)) out₀ q o
+  pub near : p.at + 2 * length s ≤ 256
+  pub good : good_items (items_of s) ≡ true
+  pub others : (q : Put) (o : List ℕ) → Wrote p (takes (items_of s)) out q o → Wrote start (takes (items_of layout)) out₀ q o
 
-pub left_start : (layout out : List ℕ) → is_layout layout ≡ true → Left layout out 0 start out
+pub left_start : (layout out : List ℕ) → is_layout layout ≡ true → Left layout out layout start out
 left_start layout out e =
     let (pairs, short, good) = is_layout_of layout e in
-    record { pairs = pairs; short = short; even = refl; low = omega arith; near = omega arith; good = good; others = λ q o w. w }
+    record { low = omega arith; near = omega arith; good = good; others = λ q o w. w }
 
-module _ (layout out₀ : List ℕ) (i : ℕ) (p : Put) (out : List ℕ) (left : Left layout out₀ i p out) where
-  module _ (h : i + 1 < length layout) where
-    pub field_good : (get_or layout i 0 ≤ 1) × (get_or layout (i + 1) 0 ≤ 64) × (good_items (items_of (drop (i + 2) layout)) ≡ true)
-    field_good = good_of (item (get_or layout i 0) (get_or layout (i + 1) 0)) _ (rw (items_at layout i h) at left.good)
+module _ {layout out₀ s : List ℕ} {p : Put} {out : List ℕ} (left : Left layout out₀ s p out) where
+  module _ {x t : List ℕ} (first : FirstOf s x t) where
+    pub field_good : (get_or x 0 0 ≤ 1) × (get_or x 1 0 ≤ 64) × (good_items (items_of t) ≡ true)
+    field_good = good_of (item (get_or x 0 0) (get_or x 1 0)) _ (rw (items_cons first) at left.good)
 
-    pub left_next : (q : Put) (o : List ℕ) → Wrote p (takes (item (get_or layout i 0) (get_or layout (i + 1) 0) ∷ [])) out q o → Left layout out₀ (i + 2) q o
-    left_next q o w =
-        let f = item (get_or layout i 0) (get_or layout (i + 1) 0) in
+    pub left_next : {q : Put} {o : List ℕ} → Wrote p (takes (item (get_or x 0 0) (get_or x 1 0) ∷ [])) out q o → Left layout out₀ t q o
+    left_next {q} {o} w =
+        let f = item (get_or x 0 0) (get_or x 1 0) in
         record {
-          pairs = left.pairs;
-          short = left.short;
-          even = omega (arith, left.even);
           low = rw w.next (known-le _ p.known left.low);
-          near = rw w.next (omega (arith, left.near, length_compiled p.known (f ∷ [])));
+          near = rw w.next (omega (arith, left.near, length_compiled p.known (f ∷ []), ap length first.joined, length-append x t, first.two));
           good = field_good.2;
-          others = λ r u v. left.others r u (rw (items_at layout i h, takes-append (f ∷ []) (items_of (drop (i + 2) layout))) (wrote-append w v));
+          others = λ r u v. left.others r u (rw (items_cons first, takes-append (f ∷ []) (items_of t)) (wrote-append w v));
         }
 
-  pub left_end : i ≡ length layout → Wrote start (takes (items_of layout)) out₀ p out
+  pub left_end : length s < 2 → Wrote start (takes (items_of layout)) out₀ p out
   unfolding takes
-  left_end e = left.others p out (rw (items_end layout i e) (wrote_none p out))
+  left_end h = left.others p out (rw (items_none s h) (wrote_none p out))

@@ -1,7 +1,7 @@
 -- Laws of a take with its refill, the same at a field and inside a wide field.
 use Prim.Native.Nat.{ℕ, ◌+◌, ◌-◌, ◌<◌, ◌≤◌}
-use mathlib.Core.Path.{◌≡◌, refl, ap, ◌∙◌}
-use mathlib.Core.Bool.{Bool, true, false, cond, ◌&&◌}
+use mathlib.Core.Path.{◌≡◌, refl, ◌∙◌}
+use mathlib.Core.Bool.{Bool, true, cond, ◌&&◌}
 use mathlib.Core.List.{List, ◌∷◌}
 use native.Mathlib.Nat.{zero-add}
 use native.Mathlib.Numerals.{add-one}
@@ -9,25 +9,20 @@ use native.Mathlib.Omega.{arith}
 use lib.ListN.{length, drop, get_or}
 use lib.Dec.{eqb, leb}
 use lib.Seq.{drop-cons}
-use borrow.Author.Tests.{eqb-true, eq-eqb, ne_eqb, le-leb, lt-leb}
+use borrow.Author.Tests.{eqb-true, ne_eqb, le-leb, lt-leb}
+use Rattle.std.specs.Prelude.{Option, Some, None, MatchOption}
 use Rattle.layout.specs.declared.inner.check.Take.{Take}
 use Rattle.layout.specs.Layout.{item}
 use Rattle.layout.specs.Plan.{code, count, refill, wide, ends, decode}
 use Rattle.layout.specs.Check.{fits, at_field, in_wide}
-use Rattle.layout.specs.Take.{checked, closed, at_on, wide_on, at_left, wide_left, TakenAt, Ready}
+use Rattle.layout.specs.Take.{checked, at_on, wide_on, at_left, wide_left, TakenAt, NoneAt, Ready}
 use Rattle.layout.proofs.DecodeLaws.{ends_of, decode_end, decode-refill}
-use Rattle.layout.proofs.CheckLaws.{checked-refill, at_on_end, closed_on, closed-full, at_index, at_end, wide_index, wide_end}
+use Rattle.layout.proofs.CheckLaws.{checked-refill, at_on_end, closed_on, at_index, at_end, wide_index, wide_end}
 use Rattle.bits.proofs.TestLaws.{by_test}
 
--- the take that there is, 0 if it does not fit, and what it leaves
-abbrev pub step_of : ℕ → ℕ → ℕ → ℕ
-step_of low g b = cond (fits low g b) b 0
-
-abbrev pub left_of : ℕ → ℕ → ℕ → ℕ
-left_of low g b = cond (fits low g b) (g - count b) 0
-
-left_most : (low g b : ℕ) → g ≤ 56 → left_of low g b ≤ 56
-left_most low g b h = by_test (fits low g b) (λ f. rw f (omega arith)) (λ f. rw f (omega arith))
+-- the take b where it fits, behind which step `next` comes
+abbrev pub take_of : ℕ → ℕ → ℕ → ℕ → Option Take
+take_of next low g b = cond (fits low g b) (Some (record { next = next; step = b; left = g - count b })) None
 
 -- a step that is no refill, or comes right behind one, passes as a take that fits
 module _ (low g b : ℕ) (again on : Bool) where
@@ -43,99 +38,64 @@ module _ (low g b : ℕ) (again on : Bool) where
       rw (p, ne_eqb low 0 (λ x. omega arith), lt-leb low (count b) l))
       (λ p. rw p)
 
--- behind such a step the check goes on as its law `left` says
-module _ (low g n b : ℕ) (s : List ℕ) where
-  at_left_lem : (fits low g b && at_on g n b s) ≡ at_left (left_of low g b) n (step_of low g b) s
-  at_left_lem =
-      by_test (fits low g b)
-      (λ f. rw f (by_test (eqb b wide) (λ w. let e : b ≡ wide = eqb-true _ _ w in let c : count b ≡ 56 = omega arith in rw c) (λ w. rw w)))
-      (λ f. rw f)
-
-  wide_left_lem : (fits low g b && wide_on g n b s) ≡ wide_left (left_of low g b) n (step_of low g b) s
-  wide_left_lem = by_test (fits low g b) (λ f. rw f) (λ f. rw f)
-
-module _
-    (p : List ℕ)
-    (check : ℕ → ℕ → ℕ → List ℕ → Bool)
-    (on left : ℕ → ℕ → ℕ → List ℕ → Bool)
-    (index : (low g n i : ℕ) → i < length p → check low g n (drop i p) ≡ checked low g (get_or p i 0) (check (g + 1) 56 n (drop (i + 1) p)) (on g n (get_or p i 0) (drop (i + 1) p)))
-    (leaves : (low g n b : ℕ) (s : List ℕ) → (fits low g b && on g n b s) ≡ left (left_of low g b) n (step_of low g b) s)
-    (i g n : ℕ) (h : i < length p) where
-  plain : (get_or p i 0 ≡ refill → ⊥) → check 0 g n (drop i p) ≡ left (left_of 0 g (get_or p i 0)) n (step_of 0 g (get_or p i 0)) (drop (i + 1) p)
-  plain z = index 0 g n i h ∙ take_plain 0 g _ _ _ z ∙ leaves 0 g n (get_or p i 0) (drop (i + 1) p)
-
-  late :
-      get_or p i 0 ≡ refill → i + 1 < length p →
-      check 0 g n (drop i p) ≡ left (left_of (g + 1) 56 (get_or p (i + 1) 0)) n (step_of (g + 1) 56 (get_or p (i + 1) 0)) (drop (i + 2) p)
-  late z k =
-      let b = get_or p (i + 1) 0 in
-      let e : i + 1 + 1 ≡ i + 2 = omega arith in
-      index 0 g n i h ∙ checked-refill _ _ _ _ _ z refl ∙ index (g + 1) 56 n (i + 1) k ∙ take_late (g + 1) 56 _ _ _ (omega arith)
-      ∙ leaves (g + 1) 56 n b (drop (i + 1 + 1) p)
-      ∙ ap (λ (j : ℕ). left (left_of (g + 1) 56 b) n (step_of (g + 1) 56 b) (drop j p)) e
-
-  over : get_or p i 0 ≡ refill → check (g + 1) 56 n (drop (i + 1) p) ≡ false → check 0 g n (drop i p) ≡ false
-  over z e = index 0 g n i h ∙ checked-refill _ _ _ _ _ z refl ∙ e
-
 -- ---- the take at a step
 
-module _ (p : List ℕ) (i g : ℕ) (h : i < length p) (few : g ≤ 56) where
-  at_law : (low g n i : ℕ) → i < length p → at_field low g n (drop i p) ≡ checked low g (get_or p i 0) (at_field (g + 1) 56 n (drop (i + 1) p)) (at_on g n (get_or p i 0) (drop (i + 1) p))
-  at_law low g n i = at_index low g n p i
+-- a take that fits leaves what a step gives
+module _ (low g n b : ℕ) (s : List ℕ) (f : fits low g b ≡ true) where
+  at_fit : (fits low g b && at_on g n b s) ≡ at_left (g - count b) n b s
+  at_fit = rw f (by_test (eqb b wide) (λ w. let e : b ≡ wide = eqb-true _ _ w in let c : count b ≡ 56 = omega arith in rw c) (λ w. rw w))
 
-  wide_law : (low g n i : ℕ) → i < length p → in_wide low g n (drop i p) ≡ checked low g (get_or p i 0) (in_wide (g + 1) 56 n (drop (i + 1) p)) (wide_on g n (get_or p i 0) (drop (i + 1) p))
-  wide_law low g n i = wide_index low g n p i
+  wide_fit : (fits low g b && wide_on g n b s) ≡ wide_left (g - count b) n b s
+  wide_fit = rw f
 
-  pub taken_plain : (get_or p i 0 ≡ refill → ⊥) → TakenAt p i g (record { next = i + 1; step = step_of 0 g (get_or p i 0); left = left_of 0 g (get_or p i 0) })
-  taken_plain z =
-      record {
+-- both checks at step i go on as a take at step k does, of at least low bits and at most h
+record Goes (p : List ℕ) (i g k low h : ℕ) : Type 0 where
+  known : h ≤ 56
+  at : (n : ℕ) → at_field 0 g n (drop i p) ≡ (fits low h (get_or p k 0) && at_on h n (get_or p k 0) (drop (k + 1) p))
+  inside : (n : ℕ) → in_wide 0 g n (drop i p) ≡ (fits low h (get_or p k 0) && wide_on h n (get_or p k 0) (drop (k + 1) p))
+
+module _ {p : List ℕ} {i g k low h : ℕ} (goes : Goes p i g k low h) (ahead : i ≤ k) (there : k < length p) where
+  taken_of : {next : ℕ} → next ≡ k + 1 → MatchOption (take_of next low h (get_or p k 0)) (NoneAt p i g) (TakenAt p i g)
+  taken_of {next = next} e =
+      let b = get_or p k 0 in
+      by_test (fits low h b)
+      (λ f.
+      rw f (record {
         ahead = omega arith;
         there = omega arith;
-        known = left_most 0 g (get_or p i 0) few;
-        at = λ n. plain p at_field at_on at_left at_law at_left_lem i g n h z;
-        inside = λ n. plain p in_wide wide_on wide_left wide_law wide_left_lem i g n h z;
-      }
+        known = omega (arith, goes.known);
+        at = λ n. rw e (goes.at n ∙ at_fit low h n b (drop (k + 1) p) f);
+        inside = λ n. rw e (goes.inside n ∙ wide_fit low h n b (drop (k + 1) p) f);
+      }))
+      (λ f. rw f (record { at = λ n. goes.at n ∙ rw f; inside = λ n. goes.inside n ∙ rw f }))
+
+module _ (p : List ℕ) (i g : ℕ) (h : i < length p) (few : g ≤ 56) where
+  pub taken_plain : (get_or p i 0 ≡ refill → ⊥) → MatchOption (take_of (i + 1) 0 g (get_or p i 0)) (NoneAt p i g) (TakenAt p i g)
+  taken_plain z =
+      let goes : Goes p i g i 0 g = record {
+        known = few;
+        at = λ n. at_index 0 g n p i h ∙ take_plain 0 g _ _ _ z;
+        inside = λ n. wide_index 0 g n p i h ∙ take_plain 0 g _ _ _ z;
+      } in
+      taken_of goes (omega arith) h refl
 
   module _ (z : get_or p i 0 ≡ refill) where
-    pub taken_late : i + 1 < length p → TakenAt p i g (record { next = i + 2; step = step_of (g + 1) 56 (get_or p (i + 1) 0); left = left_of (g + 1) 56 (get_or p (i + 1) 0) })
+    pub taken_late : i + 1 < length p → MatchOption (take_of (i + 2) (g + 1) 56 (get_or p (i + 1) 0)) (NoneAt p i g) (TakenAt p i g)
     taken_late k =
-        record {
-          ahead = omega arith;
-          there = omega arith;
-          known = left_most (g + 1) 56 (get_or p (i + 1) 0) (omega arith);
-          at = λ n. late p at_field at_on at_left at_law at_left_lem i g n h z k;
-          inside = λ n. late p in_wide wide_on wide_left wide_law wide_left_lem i g n h z k;
-        }
+        let goes : Goes p i g (i + 1) (g + 1) 56 = record {
+          known = omega arith;
+          at = λ n. at_index 0 g n p i h ∙ checked-refill _ _ _ _ _ z refl ∙ at_index (g + 1) 56 n p (i + 1) k ∙ take_late (g + 1) 56 _ _ _ (omega arith);
+          inside = λ n. wide_index 0 g n p i h ∙ checked-refill _ _ _ _ _ z refl ∙ wide_index (g + 1) 56 n p (i + 1) k ∙ take_late (g + 1) 56 _ _ _ (omega arith);
+        } in
+        taken_of goes (omega arith) k (omega arith)
 
-    pub taken_none : length p ≤ i + 1 → TakenAt p i g (record { next = i + 1; step = 0; left = 0 })
+    pub taken_none : length p ≤ i + 1 → NoneAt p i g
     taken_none k =
         let e : i + 1 ≡ length p = omega arith in
         record {
-          ahead = omega arith;
-          there = omega arith;
-          known = omega arith;
-          at = λ n. over p at_field at_on at_left at_law at_left_lem i g n h z (at_end (g + 1) 56 n p (i + 1) e ∙ ne_eqb (g + 1) 0 (λ x. omega arith));
-          inside = λ n. over p in_wide wide_on wide_left wide_law wide_left_lem i g n h z (wide_end (g + 1) 56 n p (i + 1) e);
+          at = λ n. at_index 0 g n p i h ∙ checked-refill _ _ _ _ _ z refl ∙ at_end (g + 1) 56 n p (i + 1) e ∙ ne_eqb (g + 1) 0 (λ x. omega arith);
+          inside = λ n. wide_index 0 g n p i h ∙ checked-refill _ _ _ _ _ z refl ∙ wide_end (g + 1) 56 n p (i + 1) e;
         }
-
--- ---- the ways on behind a take at a field
-
-module _ {p : List ℕ} {i g : ℕ} {t : Take} (taken : TakenAt p i g t) (n : ℕ) where
-  -- what ends a field is not the first part of a wide one
-  narrow : ends t.step ≡ true → at_field 0 g n (drop i p) ≡ closed (ends t.step) n (at_field 0 t.left (n - 1) (drop t.next p))
-  narrow e = let (one, two) = ends_of t.step e in taken.at n ∙ rw (ne_eqb t.step wide (λ w. omega arith))
-
-  pub field_next : ends t.step ≡ true → (n ≡ 0 → ⊥) → at_field 0 g n (drop i p) ≡ at_field 0 t.left (n - 1) (drop t.next p)
-  field_next e z = narrow e ∙ closed_on _ _ _ e z
-
-  pub field-full : ends t.step ≡ true → n ≡ 0 → at_field 0 g n (drop i p) ≡ false
-  field-full e z = narrow e ∙ closed-full _ _ _ e z
-
-  pub field-wide : t.step ≡ wide → at_field 0 g n (drop i p) ≡ in_wide 0 t.left n (drop t.next p)
-  field-wide w = taken.at n ∙ rw (eq-eqb t.step wide w)
-
-  pub field_none : (t.step ≡ wide → ⊥) → ends t.step ≡ false → at_field 0 g n (drop i p) ≡ false
-  field_none w e = taken.at n ∙ rw (ne_eqb t.step wide w, e)
 
 -- ---- a take that is ready
 

@@ -1,11 +1,14 @@
 -- What compiling and checking answer, on every input.
-use Rattle.std.specs.Prelude.{ℕ, not, List, [], ◌∷◌, length, ltb}
+use Rattle.std.specs.Prelude.{ℕ, Result, Ok, Err, not, List, [], ◌∷◌, length, ltb}
 use Rattle.std.proofs.lemmas.List.Edits.{sets}
-use Rattle.bits.specs.Refusals.{longest, too_long, bad_layout, bad_plan, no_room, ◌⟶◌, first_refusal, if_done}
-use Rattle.layout.specs.declared.Compiled.{Compiled}
+use Rattle.bits.specs.Refusals.{number, longest, done, too_long, bad_layout, bad_plan, no_room, ◌⟶◌, first_refusal, if_done, LengthTold}
+use Rattle.bits.specs.declared.Refusal.{Refusal}
 use Rattle.layout.specs.Layout.{items_of, is_layout}
 use Rattle.layout.specs.Plan.{compile}
 use Rattle.layout.specs.Check.{is_plan}
+
+abbrev pub compiled : ℕ → ℕ → LengthTold
+compiled e n = record { refusal = e; length = n }
 
 -- the plan of a layout's bytes
 abbrev pub plan_of : List ℕ → List ℕ
@@ -22,7 +25,7 @@ compile_refusal s room =
     ∷ [])
 
 -- the refusal number, and the plan's length or 0
-unfoldable pub compile_of : List ℕ → ℕ → Compiled
+unfoldable pub compile_of : List ℕ → ℕ → LengthTold
 compile_of s room =
     record {
       refusal = compile_refusal s room;

@@ -1,5 +1,5 @@
 -- The plan check one step at a time: what a step gives, and a step that takes its refill along.
-use Rattle.std.specs.Prelude.{ℕ, ◌+◌, ◌-◌, ◌<◌, ◌≤◌, ◌≡◌, Bool, cond, ◌&&◌, List, length, get_or, drop, eqb, ltb, leb}
+use Rattle.std.specs.Prelude.{ℕ, ◌+◌, ◌-◌, ◌<◌, ◌≤◌, ◌≡◌, Bool, false, cond, ◌&&◌, List, length, get_or, drop, eqb, ltb, leb}
 use Rattle.layout.specs.declared.inner.check.Take.{Take}
 use Rattle.layout.specs.Plan.{count, refill, wide, ends, decode}
 use Rattle.layout.specs.Check.{fits, ends_wide, at_field, in_wide}
@@ -35,6 +35,11 @@ pub record TakenAt (p : List ℕ) (i g : ℕ) (t : Take) : Type 0 where
   pub known : t.left ≤ 56
   pub at : (n : ℕ) → at_field 0 g n (drop i p) ≡ at_left t.left n t.step (drop t.next p)
   pub inside : (n : ℕ) → in_wide 0 g n (drop i p) ≡ wide_left t.left n t.step (drop t.next p)
+
+-- there is no take at step i of p that fits: neither check goes on
+pub record NoneAt (p : List ℕ) (i g : ℕ) : Type 0 where
+  pub at : (n : ℕ) → at_field 0 g n (drop i p) ≡ false
+  pub inside : (n : ℕ) → in_wide 0 g n (drop i p) ≡ false
 
 -- the take at step k, with h bits known, decides what the check at step i gives, with g known: k is i, or behind a refill at i
 pub record Ready (p : List ℕ) (i g k h : ℕ) : Type 0 where

@@ -1,10 +1,11 @@
 -- Laws of what line_at and read_line answer.
-use Rattle.std.proofs.Common.{◌≡◌, ℕ, ◌<◌, ◌≤◌, true, false, List, [], ◌∷◌, length, drop, sym, refl, ap, ◌∙◌, arith, length-drop}
+use Rattle.std.proofs.Common.{◌≡◌, ℕ, ◌<◌, ◌≤◌, true, false, Bool, cond, List, [], ◌∷◌, Some, None, length, drop, sym, refl, ap, ◌∙◌, arith, length-drop}
 use lib.Seq.{drop-length}
 use native.Mathlib.Numerals.{lt_of_le_of_ne}
 use Rattle.record.specs.declared.Record.{Record}
-use Rattle.record.specs.Record.{fits, record_of, no_record}
+use Rattle.record.specs.Record.{fits, record_of}
 use Rattle.digits.specs.declared.inner.PartAt.{PartAt}
+use Rattle.std.proofs.lemmas.Option.{cond_some, none-some}
 use Rattle.line.specs.declared.inner.LineAt.{LineAt}
 use Rattle.line.specs.Reading.{begins, first_of, behind, is_nil, LineStands}
 use Rattle.line.proofs.PlaceLaws.{SixStand}
@@ -16,7 +17,7 @@ use Rattle.line.proofs.ReadLaws.{behind_shorter}
 abbrev named : PartAt → PartAt → PartAt → PartAt → PartAt → PartAt → Record
 named a b c d e f = record_of a.value b.value c.value d.value e.value f.value
 
-module _ (s : List ℕ) (at : ℕ) (a b c d e f : PartAt) (x : SixStand s at a b c d e f) where
+module _ {s : List ℕ} {at : ℕ} {a b c d e f : PartAt} (x : SixStand s at a b c d e f) where
   first_is : first_of (drop at s) ≡ named a b c d e f
   first_is = rw (x.star, x.date, x.limit, x.magnitude, x.error, x.filter)
 
@@ -30,16 +31,23 @@ module _ (s : List ℕ) (at : ℕ) (a b c d e f : PartAt) (x : SixStand s at a b
       omega arith
 
   pub stands_line : {r : Record} → fits (named a b c d e f) ≡ true → r ≡ named a b c d e f
-      → LineStands s at (record { good = true; «record» = r; next = f.next })
-  stands_line h k =
-      let g = ap fits first_is ∙ h in
-      record { good = sym g; names = rw g (k ∙ sym first_is); rest = x.rest; within = x.within; further = further }
+      → LineStands s at (record { «record» = Some r; next = f.next })
+  stands_line h k = record { names = rw (ap fits first_is ∙ h) (ap Some (k ∙ sym first_is)); rest = x.rest; within = x.within; further = further }
 
-  pub stands_none : {r : Record} → fits (named a b c d e f) ≡ false → r ≡ no_record
-      → LineStands s at (record { good = false; «record» = r; next = f.next })
-  stands_none h k =
-      let g = ap fits first_is ∙ h in
-      record { good = sym g; names = rw g k; rest = x.rest; within = x.within; further = further }
+  pub stands_none : fits (named a b c d e f) ≡ false → LineStands s at (record { «record» = None; next = f.next })
+  stands_none h = record { names = rw (ap fits first_is ∙ h); rest = x.rest; within = x.within; further = further }
+
+-- whether a line stands there, and its record
+module _ {s : List ℕ} {at : ℕ} {r : LineAt} (x : LineStands s at r) where
+  pub line_named : {q : Record} → r.«record» ≡ Some q → (begins (drop at s) ≡ true) × (q ≡ first_of (drop at s))
+  line_named e = let (g, h) = cond_some _ _ _ (sym x.names ∙ e) in (g, sym h)
+
+  pub line_none : r.«record» ≡ None → begins (drop at s) ≡ false
+  line_none e = by (begins (drop at s)) (sym x.names ∙ e)
+    where
+      by : (t : Bool) → cond t (Some (first_of (drop at s))) None ≡ None → t ≡ false
+      by true h = absurd (none-some _ (sym h))
+      by false h = refl
 
 -- ---- read_line
 

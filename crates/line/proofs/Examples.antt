@@ -1,20 +1,19 @@
 -- Lines on both sides of each rule: texts, and what read_line answers of them. One table, one statement, by computation.
 use Rattle.std.proofs.Common.{◌≡◌, ℕ, List, [], ◌∷◌, map, ℤ, pos, neg_ℤ, refl}
 use Prim.Native.String.{String}
-use Rattle.bits.specs.Refusals.{done, bad_line, or_else, first_refusal}
+use Rattle.bits.specs.Refusals.{done, bad_line, or_else, first_refusal, Told}
 use Rattle.bits.specs.Signed.{signed}
 use Rattle.record.specs.declared.Record.{Record}
 use Rattle.record.specs.Record.{fits, no_record}
 use Rattle.digits.specs.Digits.{ascii, value_from}
 use Rattle.digits.specs.Reading.{run, after, closed, whole_at, decimals_at}
-use Rattle.line.specs.declared.LineRead.{LineRead}
 use Rattle.line.specs.Date.{units_of}
 use Rattle.line.specs.Reading.{date_at, thousandths_at, complement, magnitude_at, six_at, line_read, line_refusal, read_line}
 
 -- a text, and what is expected of it
 pub record Row : Type 0 where
   pub text : String
-  pub answer : LineRead
+  pub answer : (Told Record)
 
 -- a text that is a line of a record
 infix 90 ◌names◌

@@ -88,11 +88,11 @@ pub record SixStand (s : List ℕ) (at : ℕ) (a b c d e f : PartAt) : Type 0 wh
   pub rest : drop f.next s ≡ (six_at (drop at s)).rest
   pub within : f.next ≤ length s
 
-pub six_stand : (s : List ℕ) (at : ℕ) (a b c d e f : PartAt) → Stands s a (whole_at comma (drop at s)) → Stands s b (date_at (drop a.next s))
+pub six_stand : {s : List ℕ} {at : ℕ} {a b c d e f : PartAt} → Stands s a (whole_at comma (drop at s)) → Stands s b (date_at (drop a.next s))
     → Stands s c (whole_at comma (drop b.next s)) → Stands s d (magnitude_at (drop c.next s)) → Stands s e (thousandths_at (drop d.next s))
     → Stands s f (whole_at newline (drop e.next s)) → SixStand s at a b c d e f
 unfolding six_at
-six_stand s at a b c d e f p₁ q₂ q₃ q₄ q₅ q₆ =
+six_stand p₁ q₂ q₃ q₄ q₅ q₆ =
     let p₂ = stands_behind date_at p₁ q₂ in
     let p₃ = stands_behind (whole_at comma) p₂ q₃ in
     let p₄ = stands_behind magnitude_at p₃ q₄ in

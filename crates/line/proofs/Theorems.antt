@@ -22,7 +22,7 @@ first_named : {s : List ℕ} {r : Record} → Line s r → first_of s ≡ r
 first_named l = ap first_of l.text ∙ first-spelled l.parts [] l.good ∙ sym l.names
 
 -- accepted: what read_line accepts is a line of the grammar, and names the record that it answers
-pub accepted : (s : List ℕ) → (read_line s).refusal ≡ done → Line s (read_line s).«record»
+pub accepted : (s : List ℕ) → (read_line s).refusal ≡ done → Line s (read_line s).value
 unfolding read_line line_refusal
 accepted s z =
     let (short, line) = passed _ z in

@@ -1,11 +1,11 @@
 -- How a line is read: its six numbers from the front of a text, each with the byte that ends it.
-use Rattle.std.specs.Prelude.{◌≡◌, ℕ, ◌+◌, ◌-◌, ◌%◌, ◌^◌, ◌<◌, ◌≤◌, Bool, true, false, cond, not, ◌&&◌, List, [], ◌∷◌, length, drop, nat_le, nat_lt}
-use Rattle.bits.specs.Refusals.{longest, too_long, bad_line, ◌⟶◌, first_refusal, if_done}
+use Rattle.std.specs.Prelude.{◌≡◌, ℕ, ◌+◌, ◌-◌, ◌%◌, ◌^◌, ◌<◌, ◌≤◌, Bool, true, false, cond, not, ◌&&◌, List, [], ◌∷◌, length, drop, nat_le, nat_lt, Some, None, Result, Ok, Err}
+use Rattle.bits.specs.declared.Refusal.{Refusal}
+use Rattle.bits.specs.Refusals.{longest, done, too_long, bad_line, number, ◌⟶◌, first_refusal, if_done, Told, told_by}
 use Rattle.record.specs.declared.Record.{Record}
 use Rattle.record.specs.Record.{depth, fits, record_of, no_record}
 use Rattle.digits.specs.Digits.{comma, point, minus, newline}
 use Rattle.digits.specs.Reading.{Part, part, most, starts, whole_at, decimals_at}
-use Rattle.line.specs.declared.LineRead.{LineRead}
 use Rattle.line.specs.declared.inner.LineAt.{LineAt}
 use Rattle.line.specs.Date.{units_of}
 use Rattle.line.specs.Grammar.{thousandths}
@@ -82,26 +82,24 @@ abbrev pub is_nil : List ℕ → Bool
 is_nil [] = true
 is_nil (b ∷ s) = false
 
--- a refusal number and a record, as read_line answers them
-abbrev pub line_read : ℕ → Record → LineRead
-line_read e r = record { refusal = e; «record» = r }
+abbrev pub line_read : ℕ → Record → Told Record
+line_read e r = told_by e r
 
 -- 1 past the limit, 7 for a text that is not one line
 unfoldable pub line_refusal : List ℕ → ℕ
 line_refusal s = first_refusal (nat_lt longest (length s) ⟶ too_long ∷ not (begins s && is_nil (behind s)) ⟶ bad_line ∷ [])
 
 -- what read_line answers
-unfoldable pub read_line : List ℕ → LineRead
+unfoldable pub read_line : List ℕ → Told Record
 read_line s = line_read (line_refusal s) (if_done (line_refusal s) (first_of s) no_record)
 
 -- a magnitude as its distance from the least, as the code carries it until it is tested
 abbrev pub from_least : Part → Part
 from_least p = part ((p.value + depth) % 2 ^ 64) 0 p.rest
 
--- line_at: whether a line begins at a place, its record, and the place of the text behind it, which lies further on
+-- line_at: the record of the line at a place, if one begins there, and the place of the text behind it, which lies further on
 pub record LineStands (s : List ℕ) (at : ℕ) (r : LineAt) : Type 0 where
-  pub good : r.good ≡ begins (drop at s)
-  pub names : r.«record» ≡ cond (begins (drop at s)) (first_of (drop at s)) no_record
+  pub names : r.«record» ≡ cond (begins (drop at s)) (Some (first_of (drop at s))) None
   pub rest : drop r.next s ≡ behind (drop at s)
   pub within : r.next ≤ length s
   pub further : begins (drop at s) ≡ true → at < r.next

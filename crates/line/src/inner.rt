@@ -1,12 +1,13 @@
 // A line and its six numbers read from a place of a text, for proved callers.
 ghost use Rattle.std.specs.Prelude.{◌≡◌, ◌+◌, ◌%◌, ◌^◌, ◌≤◌, true, length, drop};
 ghost use Rattle.digits.specs.Reading.{most, Stands};
-ghost use Rattle.record.specs.Record.{depth, fits, record_of};
+ghost use Rattle.record.specs.Record.{depth};
 ghost use Rattle.line.specs.Date.{units_of};
 ghost use Rattle.line.specs.Reading.{date_at, thousandths_at, complement, magnitude_at, from_least, LineStands};
 
 use digits::inner::PartAt;
 use record::Record;
+use record::inner::Numbers;
 
 // The units of 10^-5 day in a day.
 pub const DAY: u64 = 100_000;
@@ -14,26 +15,11 @@ pub const DAY: u64 = 100_000;
 // How far below zero magnitudes go.
 const DEPTH: u64 = 0x8000;
 
-// Whether a line stands at a place, its record, all zeros where there is none, and the place behind it.
-#[derive(Clone, Copy)]
+// The record of the line at a place, if one stands there, and the place behind what was read.
+#[derive(Clone, Copy, Debug, PartialEq, Eq)]
 pub struct LineAt {
-    pub good: bool,
-    pub record: Record,
+    pub record: Option<Record>,
     pub next: usize,
-}
-
-// A power of ten, at most the seventh.
-fn ten_to(n: usize) -> u64
-    requires { n ≤ 7 }
-    ensures { (result ≡ 10 ^ n) × (1 ≤ result) × (result ≤ 10 ^ 7) }
-{
-    let mut p: u64 = 1;
-    let mut i: usize = 0;
-    while i < n {
-        p *= 10;
-        i += 1;
-    }
-    p
 }
 
 // The date rule: the nearest units of whole days and of the number that `count` decimals spell, halves upward.
@@ -44,7 +30,7 @@ fn units(whole: u64, decimals: u64, count: usize) -> u64
     if count <= 5 {
         return DAY * whole + decimals;
     }
-    let unit = ten_to(count - 5);
+    let unit = 10u64.pow((count - 5) as u32);
     DAY * whole + (decimals + unit / 2) / unit
 }
 
@@ -82,13 +68,10 @@ fn thousandths_at(src: &[u8], at: usize) -> PartAt
 fn below_zero(n: u64) -> u64
     ensures { result ≡ (complement true n + depth) % 2 ^ 64 }
 {
-    if 1 <= n {
-        if n <= DEPTH {
-            return DEPTH - n;
-        }
-        return DEPTH + digits::inner::MOST;
+    match n {
+        1..=DEPTH => DEPTH - n,
+        _ => DEPTH + digits::inner::MOST,
     }
-    DEPTH + digits::inner::MOST
 }
 
 // The magnitude at a place, and its comma, as its distance from the least.
@@ -119,24 +102,9 @@ fn magnitude_at(src: &[u8], at: usize) -> PartAt
 {
     let distance = distance_at(src, at);
     PartAt {
-        value: std::num::wrapping_add_u64(distance.value, 0xffff_ffff_ffff_8000),
+        value: distance.value.wrapping_sub(DEPTH),
         count: 0,
         next: distance.next,
-    }
-}
-
-// The record of six numbers as they are read.
-fn record_of(star: u64, date: u64, limit: u64, magnitude: u64, error: u64, filter: u64) -> Record
-    requires { fits (record_of star date limit magnitude error filter) ≡ true }
-    ensures { result ≡ record_of star date limit magnitude error filter }
-{
-    Record {
-        star: star as u32,
-        date,
-        limit: limit as u8,
-        magnitude: sign::inner::signed_of_bits(magnitude) as i16,
-        error: error as u16,
-        filter: filter as u8,
     }
 }
 
@@ -156,30 +124,20 @@ pub fn line_at(src: &[u8], at: usize) -> LineAt
     let error = thousandths_at(src, behind_magnitude);
     let behind_error = error.next;
     let filter = digits::inner::whole_at(src, behind_error, b'\n');
-    if record::inner::six_fit(
-        star.value,
-        date.value,
-        limit.value,
-        magnitude.value,
-        error.value,
-        filter.value,
-    ) {
-        return LineAt {
-            good: true,
-            record: record_of(
-                star.value,
-                date.value,
-                limit.value,
-                magnitude.value,
-                error.value,
-                filter.value,
-            ),
-            next: filter.next,
-        };
-    }
+    let six = Numbers {
+        star: star.value,
+        date: date.value,
+        limit: limit.value,
+        magnitude: magnitude.value,
+        error: error.value,
+        filter: filter.value,
+    };
     LineAt {
-        good: false,
-        record: record::inner::no_record(),
+        record: if six.fit() {
+            Some(six.to_record())
+        } else {
+            None
+        },
         next: filter.next,
     }
 }

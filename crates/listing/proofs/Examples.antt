@@ -4,14 +4,13 @@ use Prim.Native.String.{String}
 use mathlib.Core.Path.{◌≡◌, refl}
 use mathlib.Core.List.{List, [], ◌∷◌, map}
 use lib.IntN.{pos}
-use Rattle.bits.specs.Refusals.{longest, done, too_long, too_large, no_room, or_else, first_refusal, if_done}
+use Rattle.bits.specs.Refusals.{longest, done, too_long, too_large, no_room, or_else, first_refusal, if_done, LengthTold}
 use Rattle.record.specs.declared.Record.{Record}
 use Rattle.record.specs.Record.{fits, no_record}
 use Rattle.digits.specs.Digits.{ascii}
 use Rattle.line.specs.Grammar.{spelled}
 use Rattle.line.proofs.Examples.{six, below}
 use Rattle.print.specs.Print.{digits_of, places_in}
-use Rattle.listing.specs.declared.LineWrote.{LineWrote}
 use Rattle.listing.specs.Listing.{parts_of, line_of, write_refusal, write_line}
 
 -- a record, how many bytes the output has, and what is expected: refusal number, length and line
@@ -33,7 +32,7 @@ refuses r room e = record { of = r; room = room; refusal = e; length = 0; text =
 -- what the definitions answer: refusal number, length, and the line if there is no refusal
 unfoldable pub told : Row → List ℕ
 told row =
-    let w : LineWrote = write_line row.of row.room in
+    let w : LengthTold = write_line row.of row.room in
     w.refusal ∷ w.length ∷ if_done w.refusal (line_of row.of) []
 
 -- the table

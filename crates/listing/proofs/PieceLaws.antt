@@ -3,14 +3,13 @@ use Prim.Native.Nat.{ℕ, ◌+◌, ◌/◌, ◌%◌, ◌≤◌}
 use mathlib.Core.Path.{◌≡◌, refl, ap, ◌∙◌}
 use mathlib.Core.Bool.{Bool, true, false, cond}
 use mathlib.Core.List.{List, [], ◌∷◌, ◌++◌, append_assoc}
-use lib.ListN.{length, set, length-append}
+use lib.ListN.{length, length-append}
 use lib.Seq.{sets}
 use lib.IntN.{ℤ, pos, neg_ℤ, nat_abs}
-use native.Mathlib.Numerals.{add-one}
 use native.Mathlib.Omega.{arith}
 use Rattle.record.specs.declared.Record.{Record}
 use Rattle.record.specs.Record.{fits, Fits}
-use Rattle.digits.specs.Digits.{comma, minus, newline}
+use Rattle.digits.specs.Digits.{comma, newline}
 use Rattle.line.specs.Date.{day}
 use Rattle.line.specs.Grammar.{sign, spelled}
 use Rattle.line.proofs.GrammarLaws.{sign-append, sign-length}
@@ -70,13 +69,6 @@ magnitude_size_lem z =
     let s = sign-length (is_negative z) (fixed_of (nat_abs z / 1000) (nat_abs z % 1000) 3) in
     let l = fixed_size (nat_abs z / 1000) (nat_abs z % 1000) 3 in
     omega arith
-
-module _ (out last : List ℕ) (at n : ℕ) (z : ℤ) (e : n ≡ nat_abs z) where
-  pub minus_store : is_negative z ≡ true → last ≡ sets (set out at minus) (at + 1) (fixed_of (n / 1000) (n % 1000) 3) → last ≡ sets out at (magnitude_of z)
-  minus_store b f = f ∙ rw (e, add-one, b)
-
-  pub plus_store : is_negative z ≡ false → last ≡ sets out at (fixed_of (n / 1000) (n % 1000) 3) → last ≡ sets out at (magnitude_of z)
-  plus_store b f = f ∙ rw (e, b)
 
 -- ---- the whole line
 

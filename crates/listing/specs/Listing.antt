@@ -1,14 +1,14 @@
 -- The line of a record, and what write_line answers.
-use Rattle.std.specs.Prelude.{ℕ, ◌+◌, ◌/◌, ◌%◌, Bool, cond, not, List, [], ◌∷◌, length, ltb, ℤ, pos, nat_abs}
+use Rattle.std.specs.Prelude.{ℕ, ◌+◌, ◌/◌, ◌%◌, Bool, cond, not, List, [], ◌∷◌, length, ltb, ℤ, pos, nat_abs, Result, Ok, Err}
 use Rattle.std.proofs.lemmas.List.Edits.{sets}
 use Rattle.std.specs.Int.Signed.{lt_z}
-use Rattle.bits.specs.Refusals.{longest, too_long, too_large, no_room, ◌⟶◌, first_refusal, if_done}
+use Rattle.bits.specs.declared.Refusal.{Refusal}
+use Rattle.bits.specs.Refusals.{longest, done, number, too_long, too_large, no_room, ◌⟶◌, first_refusal, if_done, LengthTold}
 use Rattle.record.specs.declared.Record.{Record}
 use Rattle.record.specs.Record.{fits}
 use Rattle.line.specs.Date.{day}
 use Rattle.line.specs.Grammar.{Parts, spelled}
 use Rattle.print.specs.Print.{digits_of, places, whole_of}
-use Rattle.listing.specs.declared.LineWrote.{LineWrote}
 
 -- whether a number is below zero
 abbrev pub is_negative : ℤ → Bool
@@ -54,7 +54,7 @@ write_refusal r room =
     ∷ [])
 
 -- write_line: the refusal number, and the line's length or 0
-unfoldable pub write_line : Record → ℕ → LineWrote
+unfoldable pub write_line : Record → ℕ → LengthTold
 write_line r room =
     record {
       refusal = write_refusal r room;

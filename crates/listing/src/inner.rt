@@ -8,22 +8,11 @@ ghost use Rattle.listing.specs.Listing.{is_negative, magnitude_size, size_of, li
 
 use record::Record;
 
-// A magnitude without its sign.
-fn size_of(m: i16) -> u32
-    ensures { result ≡ nat_abs m }
-{
-    if m < 0 {
-        ((-1 - m) as u32) + 1
-    } else {
-        m as u32
-    }
-}
-
 // How many bytes a magnitude takes before its point.
 fn magnitude_size(m: i16) -> usize
     ensures { (result ≡ magnitude_size m) × (result ≤ 11) }
 {
-    (m < 0) as usize + print::inner::places(size_of(m) / 1000)
+    usize::from(m < 0) + print::inner::places(u32::from(m.unsigned_abs()) / 1000)
 }
 
 // How many bytes a record's line takes.
@@ -33,11 +22,10 @@ pub fn line_size(r: Record) -> usize
 {
     let star = print::inner::places(r.star);
     let days = print::inner::places((r.date / line::inner::DAY) as u32);
-    let limit = print::inner::places(r.limit as u32);
-    let m = r.magnitude;
-    let magnitude = magnitude_size(m);
-    let error = print::inner::places(r.error as u32 / 1000);
-    let filter = print::inner::places(r.filter as u32);
+    let limit = print::inner::places(u32::from(r.limit));
+    let magnitude = magnitude_size(r.magnitude);
+    let error = print::inner::places(u32::from(r.error) / 1000);
+    let filter = print::inner::places(u32::from(r.filter));
     star + days + limit + magnitude + error + filter + 20
 }
 
@@ -47,12 +35,13 @@ fn put_magnitude(out: &mut [u8], at: usize, m: i16) -> usize
     ensures answer { result ≡ at + magnitude_size m + 5 }
     ensures memory { out.new ≡ sets out.old at (sign (is_negative m) (fixed_of (nat_abs m / 1000) (nat_abs m % 1000) 3)) }
 {
-    let n = size_of(m);
+    let n = u32::from(m.unsigned_abs());
+    let mut mid = at;
     if m < 0 {
         out[at] = b'-';
-        return print::inner::put_fixed(out, at + 1, n / 1000, n % 1000, 3);
+        mid += 1;
     }
-    print::inner::put_fixed(out, at, n / 1000, n % 1000, 3)
+    print::inner::put_fixed(out, mid, n / 1000, n % 1000, 3)
 }
 
 // Puts a record's line at a place of an output that has room for it, and answers the place behind it.
@@ -65,10 +54,9 @@ pub fn put_line(r: Record, out: &mut [u8], at: usize) -> usize
     let days = (r.date / line::inner::DAY) as u32;
     let decimals = (r.date % line::inner::DAY) as u32;
     let at2 = print::inner::put_fixed(out, at1, days, decimals, 5);
-    let at3 = print::inner::put_whole(out, at2, r.limit as u32, b',');
-    let m = r.magnitude;
-    let at4 = put_magnitude(out, at3, m);
-    let error = r.error as u32;
+    let at3 = print::inner::put_whole(out, at2, u32::from(r.limit), b',');
+    let at4 = put_magnitude(out, at3, r.magnitude);
+    let error = u32::from(r.error);
     let at5 = print::inner::put_fixed(out, at4, error / 1000, error % 1000, 3);
-    print::inner::put_whole(out, at5, r.filter as u32, b'\n')
+    print::inner::put_whole(out, at5, u32::from(r.filter), b'\n')
 }

@@ -1,12 +1,12 @@
 // Refilling, peeking, consuming and reading from a state that belongs to its slice.
 ghost use Rattle.std.specs.Prelude.{◌≡◌, true, ◌+◌, ◌-◌, ◌*◌, ◌/◌, ◌≤◌, length, ltb};
-ghost use Rattle.bits.specs.Refusals.{longest};
+ghost use Rattle.bits.specs.Refusals.{longest, number_of};
 ghost use Rattle.bits.specs.Field.{field};
 ghost use Rattle.counts.specs.Counts.{place, Within, bits_left, refill_if, after_refill, after_take};
 ghost use Rattle.lookahead.specs.State.{register_of, counts_of, state_of, belongs, Belongs, state_refusal, taken_of, inside as inside_of};
 
 use crate::{State, Taken};
-use bits::{Order, refusals};
+use bits::{LONGEST, Order, Refusal};
 use counts::Counts;
 
 // The n bits before a byte, byte by byte. (It calls itself, so that the compiler leaves it out of line.)
@@ -91,17 +91,17 @@ fn is_of(order: Order, src: &[u8], c: State) -> bool
     c.register == register_at(order, src, k)
 }
 
-// 1 for a slice past the limit, 2 for a state that does not belong to it, else 0.
-pub fn refusal(order: Order, src: &[u8], c: State) -> u32
-    ensures { result ≡ state_refusal order src.now c }
+// Tests a state: 1 for a slice past the limit, 2 for a state that does not belong to it.
+pub fn check(order: Order, src: &[u8], c: State) -> Result<(), Refusal>
+    ensures { number_of result ≡ state_refusal order src.now c }
 {
-    if refusals::LONGEST < src.len() {
-        return refusals::TOO_LONG;
+    if LONGEST < src.len() {
+        return Err(Refusal::TooLong);
     }
     if is_of(order, src, c) {
-        refusals::DONE
+        Ok(())
     } else {
-        refusals::FOREIGN
+        Err(Refusal::Foreign)
     }
 }
 
@@ -206,7 +206,7 @@ pub fn read_short(order: Order, src: &[u8], c: State, w: u32) -> Taken
 pub fn inside(len: usize, k: Counts) -> bool
     ensures { result ≡ inside_of len k }
 {
-    if refusals::LONGEST < len {
+    if LONGEST < len {
         return false;
     }
     if len < 8 {

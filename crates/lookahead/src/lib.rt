@@ -4,7 +4,7 @@
 pub mod inner;
 
 // The offset of the first byte not yet fetched, the bits fetched and not yet taken, and the register that holds them.
-#[derive(Clone, Copy)]
+#[derive(Clone, Copy, Debug, PartialEq, Eq)]
 pub struct State {
     pub offset: usize,
     pub lookahead: u32,
@@ -12,7 +12,7 @@ pub struct State {
 }
 
 // A value, and the state after it was taken.
-#[derive(Clone, Copy)]
+#[derive(Clone, Copy, Debug, PartialEq, Eq)]
 pub struct Taken {
     pub value: u64,
     pub state: State,

@@ -27,22 +27,18 @@ fn copy_from(src: &[u8], at: usize, out: &mut [u8])
     requires { at + length out.old ≤ length src.now }
     ensures { out.new ≡ firsts (λ i. get_or src.now (at + i) 0) (length out.old) }
 {
-    let mut i = 0;
-    while i < out.len() {
-        out[i] = src[at + i];
-        i += 1;
-    }
+    let n = out.len();
+    out.copy_from_slice(&src[at..at + n]);
 }
 
 // Fills out with straddles of the bytes from `high` on and those from `low` on.
+// By an index: of what a loop over `iter_mut().zip(..)` writes a proof knows nothing (tried, and the proof does not close).
 fn straddle_from(src: &[u8], high: usize, low: usize, k: usize, out: &mut [u8])
     requires { (1 ≤ k) × (k ≤ 7) × (high + length out.old ≤ length src.now) × (low + length out.old ≤ length src.now) }
     ensures { out.new ≡ firsts (λ i. straddled (get_or src.now (high + i) 0) (get_or src.now (low + i) 0) k) (length out.old) }
 {
-    let mut i = 0;
-    while i < out.len() {
-        out[i] = straddle(src[high + i], src[low + i], k);
-        i += 1;
+    for (i, byte) in out.iter_mut().enumerate() {
+        *byte = straddle(src[high + i], src[low + i], k);
     }
 }
 

@@ -9,4 +9,5 @@ mod HeldLaws
 mod PutWordLaws
 mod FrontLaws
 mod StretchLaws
+mod ChunkLaws
 pub mod PutBytesLaws

@@ -1,10 +1,11 @@
 -- Laws of runs of stores: what stays, and the field of stored bytes.
 use mathlib.Core.Path.{◌≡◌, refl, sym, ap, ap₂, ◌∙◌, subst}
-use Prim.Native.Nat.{ℕ, zero, suc, ◌+◌, ◌*◌, ◌^◌, ◌<◌, ◌≤◌}
+use Prim.Native.Nat.{ℕ, zero, suc, ◌+◌, ◌-◌, ◌*◌, ◌^◌, ◌<◌, ◌≤◌}
 use native.Mathlib.Omega.{arith}
-use mathlib.Core.List.{List, [], ◌∷◌}
-use lib.ListN.{get_or, length, set, length-set}
-use lib.Seq.{sets, get_or-set_same, get_or-set_other}
+use mathlib.Core.List.{List, [], ◌∷◌, ◌++◌, append_assoc}
+use lib.ListN.{get_or, length, take, drop, set, length-set}
+use borrow.Rule.Slice.PartMut.{put_mid, Post-is}
+use lib.Seq.{sets, sets-eq, get_or-set_same, get_or-set_other}
 use Rattle.bits.specs.declared.Order.{Order}
 use Rattle.bits.specs.Field.{join, field}
 use Rattle.bits.specs.Word.{first, rest}
@@ -13,6 +14,13 @@ use Rattle.bits.proofs.FieldLaws.{field_split, field_byte}
 use Rattle.packing.specs.Packing.{bytes_of}
 use Rattle.packing.proofs.PartLaws.{first_twice}
 use Rattle.packing.proofs.BytesLaws.{byte_more}
+
+-- a part of a list written anew, as a run of stores
+pub part_sets : (s : List ℕ) (at n : ℕ) {part bs : List ℕ} → at + n ≤ length s → part ≡ bs → length bs ≡ n → put_mid at (at + n - at) s part ≡ sets s at bs
+part_sets s at n {part} {bs} h p l =
+    let after = Post-is at (at + n) s (omega arith) ∙ ap (λ (k : ℕ). drop (at + k) s) (sym l) in
+    let new : put_mid at (at + n - at) s part ≡ take at s ++ (bs ++ drop (at + length bs) s) = (λ i. take at s ++ (p i ++ after i)) in
+    new ∙ sym (append_assoc (take at s) bs (drop (at + length bs) s)) ∙ sym (sets-eq bs s at (omega (arith, l)))
 
 -- what stands before a run of stores stays
 pub get_d_sets_before : (bs s : List ℕ) (at i : ℕ) → i < at → get_or (sets s at bs) i 0 ≡ get_or s i 0

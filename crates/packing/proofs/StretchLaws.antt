@@ -5,14 +5,12 @@ use native.Mathlib.Nat.{le_refl}
 use native.Mathlib.Omega.{arith}
 use mathlib.Core.List.{List}
 use lib.ListN.{get_or, length}
-use lib.Seq.{sets}
 use Rattle.bits.specs.declared.Order.{Order}
 use Rattle.bits.specs.Field.{join, field}
-use Rattle.bits.specs.Word.{rest}
 use Rattle.bits.proofs.FieldLaws.{field_lt, field_split, field_byte}
 use Rattle.packing.specs.declared.State.{State}
-use Rattle.packing.specs.Packing.{bits_written, Belongs, bytes_of, put, put_out}
-use Rattle.packing.proofs.PutLaws.{put-length, put_is, put_out_is, put_none, put_none_out, put-put, put-put_out, put_next}
+use Rattle.packing.specs.Packing.{bits_written, Belongs, put, put_out}
+use Rattle.packing.proofs.PutLaws.{put-length, put_none, put_none_out, put-put, put-put_out, put_next}
 
 -- from the writer c and the output s on, bytes i to j - 1 lead to d and t
 pub record Stretch (o : Order) (src : List ℕ) (i j : ℕ) (s : List ℕ) (c : State) (t : List ℕ) (d : State) : Type 0 where
@@ -42,23 +40,23 @@ module _ (o : Order) (src : List ℕ) (i : ℕ) (s : List ℕ) (c : State) where
         memory = ht ∙ ap (λ (k : ℕ). put_out o s c k (field o src (8 * i) k)) e;
       }
 
-  -- one byte, and eight as one word of 64 bits: as many bits stay as were held
+  -- one byte, and eight as one word of 64 bits
   pub stretch_byte : get_or src i 0 < 2 ^ 8 → (b : ℕ) → b ≡ get_or src i 0 → {t : List ℕ} {d : State} → d ≡ put o c 8 b → t ≡ put_out o s c 8 b → Stretch o src i (i + 1) s c t d
   stretch_byte small b hb hd ht =
       let e : b ≡ field o src (8 * i) 8 = hb ∙ sym (field_byte o src i small) in
       stretch_put 1 (hd ∙ ap (put o c 8) e) (ht ∙ ap (put_out o s c 8) e)
 
-  pub stretch_word : c.held ≤ 7 → (v : ℕ) → v ≡ field o src (8 * i) 64 → {t : List ℕ} {r : ℕ} → r ≡ rest o 64 c.held (join o c.held 64 c.number v)
-      → t ≡ sets s c.written (bytes_of o 8 c.held (join o c.held 64 c.number v)) → Stretch o src i (i + 8) s c t (record { written = c.written + 8; held = c.held; number = r })
-  stretch_word few v hv hr ht =
-      let e : c.held + 64 ≡ 8 * 8 + c.held = omega arith in
-      stretch_put 8
-      ((λ k. record { written = c.written + 8; held = c.held; number = hr k }) ∙ sym (put_is o c 64 v 8 c.held e few) ∙ ap (put o c 64) hv)
-      (ht ∙ sym (put_out_is o c 64 v 8 c.held e few s) ∙ ap (put_out o s c 64) hv)
+  pub stretch_word : (v : ℕ) → v ≡ field o src (8 * i) 64 → {t : List ℕ} {d : State} → d ≡ put o c 64 v → t ≡ put_out o s c 64 v → Stretch o src i (i + 8) s c t d
+  stretch_word v hv hd ht = stretch_put 8 (hd ∙ ap (put o c 64) hv) (ht ∙ ap (put_out o s c 64) hv)
 
   module _ (j : ℕ) (t : List ℕ) (d : State) (g : Stretch o src i j s c t d) where
     pub stretch_length : length t ≡ length s
     stretch_length = ap length g.memory ∙ put-length o c (8 * (j - i)) (field o src (8 * i) (8 * (j - i))) s
+
+    -- as many bits stay as were held
+    pub stretch_held : c.held ≤ 7 → d.held ≡ c.held
+    unfolding put
+    stretch_held few = ap (λ (m : State). m.held) g.state ∙ omega arith
 
     -- the writer belongs, and the bytes to k have room
     pub stretch_next : (k : ℕ) → Belongs (length s) c → bits_written c + 8 * (k - i) ≤ 8 * length s → j ≤ k → Belongs (length t) d × (bits_written d + 8 * (k - j) ≤ 8 * length t)

@@ -1,57 +1,49 @@
 // Putting bits and bytes behind those that were written, for proved callers.
 ghost use Rattle.std.specs.Prelude.{◌≡◌, ◌+◌, ◌-◌, ◌*◌, ◌%◌, ◌^◌, ◌<◌, ◌≤◌, length};
 ghost use Rattle.std.proofs.lemmas.List.Edits.{sets};
-ghost use Rattle.bits.specs.Refusals.{longest};
+ghost use Rattle.bits.specs.Refusals.{longest, number_of};
 ghost use Rattle.bits.specs.Field.{join};
 ghost use Rattle.bits.specs.Word.{rest};
 ghost use Rattle.packing.specs.Packing.{bits_written, belongs, Belongs, state_refusal, bytes_of, gathered, full, over, put, put_out, put_bytes, put_bytes_out};
 
 use crate::State;
-use bits::{Order, refusals};
+use bits::{LONGEST, Order, Refusal};
 
 // Whether a writer belongs to an output of len bytes.
 fn is_of(len: usize, c: State) -> bool
     requires { len ≤ longest }
     ensures { result ≡ belongs len c }
 {
-    if 7 < c.held {
-        return false;
-    }
-    if len < c.written {
-        return false;
-    }
-    if 8 * (len - c.written) < c.held as usize {
-        return false;
-    }
-    c.number < 1 << c.held
+    c.held <= 7
+        && c.written <= len
+        && c.held as usize <= 8 * (len - c.written)
+        && c.number < 1 << c.held
 }
 
-// 1 for an output past the limit, 2 for a writer that does not belong to it, else 0.
-pub fn refusal(len: usize, c: State) -> u32
-    ensures { result ≡ state_refusal len c }
+// Tests a writer: 1 for an output past the limit, 2 for a writer that does not belong to it.
+pub fn check(len: usize, c: State) -> Result<(), Refusal>
+    ensures { number_of result ≡ state_refusal len c }
 {
-    if refusals::LONGEST < len {
-        return refusals::TOO_LONG;
+    if LONGEST < len {
+        return Err(Refusal::TooLong);
     }
     if is_of(len, c) {
-        refusals::DONE
+        Ok(())
     } else {
-        refusals::FOREIGN
+        Err(Refusal::Foreign)
     }
 }
 
-// The n low bytes of a word, the lowest first, stored from `at` on.
+// The n low bytes of a word, the lowest first, stored from `at` on: one by one, since a copy of so few takes twice as long, and by their
+// places, since a walk over that part of the output takes a tenth more instructions.
 fn store(out: &mut [u8], at: usize, n: u32, word: u64)
     requires { (n ≤ 8) × (at + n ≤ length out.old) }
     ensures { out.new ≡ sets out.old at (bytes_of Order.Little n (64 - 8 * n) word) }
 {
-    let end = at + n as usize;
-    let mut k = at;
-    let mut v = word;
-    while k < end {
-        out[k] = (v % 256) as u8;
-        v = v / 256;
-        k += 1;
+    let mut left = word;
+    for k in at..at + n as usize {
+        out[k] = (left % 256) as u8;
+        left /= 256;
     }
 }
 
@@ -114,42 +106,34 @@ pub fn low_bits(v: u64, n: u32) -> u64
     v & ((1 << n) - 1)
 }
 
-// The eight bytes of a word, stored from `at` on: one store, after a byte swap if the order is big.
+// The eight bytes of a word, stored from `at` on: one store, after a byte swap if the order is big. (A copy in
+// each arm: where the arms only choose the bytes, the compiler stores them one by one.)
 pub fn store_whole(order: Order, out: &mut [u8], at: usize, word: u64)
     requires { at + 8 ≤ length out.old }
     ensures { out.new ≡ sets out.old at (bytes_of order 8 0 word) }
 {
     match order {
-        Order::Little => store_little(out, at, word),
-        Order::Big => store_little(out, at, words::inner::swap8(word)),
+        Order::Little => out[at..at + 8].copy_from_slice(&word.to_le_bytes()),
+        Order::Big => out[at..at + 8].copy_from_slice(&word.to_be_bytes()),
     }
 }
 
-// The eight bytes of a word, the least significant first.
-fn store_little(out: &mut [u8], at: usize, word: u64)
-    requires { at + 8 ≤ length out.old }
-    ensures { out.new ≡ sets out.old at (bytes_of Order.Little 8 0 word) }
+// 64 bits v behind those that are held: eight bytes are full and stored, and as many bits as before stay.
+fn put_word(order: Order, out: &mut [u8], c: State, v: u64) -> State
+    requires { (1 ≤ c.held) × (c.held ≤ 7) × (c.number < 2 ^ c.held) × (c.written + 8 ≤ length out.old) }
+    ensures answer { result ≡ put order c 64 v }
+    ensures memory { out.new ≡ put_out order out.old c 64 v }
 {
-    out[at] = (word % 256) as u8;
-    out[at + 1] = (word / 0x100 % 256) as u8;
-    out[at + 2] = (word / 0x10000 % 256) as u8;
-    out[at + 3] = (word / 0x1000000 % 256) as u8;
-    out[at + 4] = (word / 0x100000000 % 256) as u8;
-    out[at + 5] = (word / 0x10000000000 % 256) as u8;
-    out[at + 6] = (word / 0x1000000000000 % 256) as u8;
-    out[at + 7] = (word / 0x100000000000000) as u8;
-}
-
-// 64 bits v behind h that are held: eight bytes are full and stored, and as many bits as before stay, which are answered.
-fn put_word(order: Order, out: &mut [u8], at: usize, h: u32, number: u64, v: u64) -> u64
-    requires { (1 ≤ h) × (h ≤ 7) × (number < 2 ^ h) × (at + 8 ≤ length out.old) }
-    ensures answer { result ≡ rest order 64 h (join order h 64 number v) }
-    ensures memory { out.new ≡ sets out.old at (bytes_of order 8 h (join order h 64 number v)) }
-{
-    let n = 64 - h;
-    let word = bits::inner::join_bits(order, h, n, number, bits::inner::first_bits(order, v, n));
-    store_whole(order, out, at, word);
-    bits::inner::first_bits(order, bits::inner::skip_bits(order, v, n), h)
+    let n = 64 - c.held;
+    let first = bits::inner::first_bits(order, v, n);
+    let word = bits::inner::join_bits(order, c.held, n, c.number, first);
+    store_whole(order, out, c.written, word);
+    let last = bits::inner::skip_bits(order, v, n);
+    State {
+        written: c.written + 8,
+        held: c.held,
+        number: bits::inner::first_bits(order, last, c.held),
+    }
 }
 
 // Bytes behind held bits: by words of eight bytes, then one by one.
@@ -158,45 +142,16 @@ fn put_shifted(order: Order, out: &mut [u8], c: State, src: &[u8]) -> State
     ensures answer { result ≡ put_bytes order c src.now }
     ensures memory { out.new ≡ put_bytes_out order out.old c src.now }
 {
-    let h = c.held;
-    let mut at = c.written;
-    let mut number = c.number;
-    let mut i: usize = 0;
-    while 8 <= src.len() - i {
-        let v = words::inner::load_whole(order, src, i);
-        number = put_word(order, out, at, h, number, v);
-        at += 8;
-        i += 8;
+    let (words, bytes) = src.as_chunks::<8>();
+    let mut next = c;
+    for word in words {
+        let v = words::inner::load_whole(order, word, 0);
+        next = put_word(order, out, next, v);
     }
-    let mut next = State {
-        written: at,
-        held: h,
-        number: number,
-    };
-    while i < src.len() {
-        let b = wide(src[i]);
-        next = put_bits(order, out, next, 8, b);
-        i += 1;
+    for b in bytes {
+        next = put_bits(order, out, next, 8, u64::from(*b));
     }
     next
-}
-
-fn wide(b: u8) -> u64
-    ensures { result ≡ b }
-{
-    b as u64
-}
-
-// Bytes where no bits are held: a copy.
-fn put_copied(out: &mut [u8], at: usize, src: &[u8])
-    requires { at + length src.now ≤ length out.old }
-    ensures { out.new ≡ sets out.old at src.now }
-{
-    let mut i = 0;
-    while i < src.len() {
-        out[at + i] = src[i];
-        i += 1;
-    }
 }
 
 // Bytes behind those written, eight bits each.
@@ -208,9 +163,10 @@ pub fn put_bytes(order: Order, out: &mut [u8], c: State, src: &[u8]) -> State
     if 0 < c.held {
         return put_shifted(order, out, c, src);
     }
-    put_copied(out, c.written, src);
+    let end = c.written + src.len();
+    out[c.written..end].copy_from_slice(src);
     State {
-        written: c.written + src.len(),
+        written: end,
         held: 0,
         number: 0,
     }

@@ -4,7 +4,7 @@
 pub mod inner;
 
 // The bytes that are full, and the bits held until they fill a byte: how many, and as a number.
-#[derive(Clone, Copy)]
+#[derive(Clone, Copy, Debug, PartialEq, Eq)]
 pub struct State {
     pub written: usize,
     pub held: u32,

@@ -12,9 +12,8 @@ use Rattle.bits.specs.declared.Order.{Order}
 use Rattle.bits.specs.Refusals.{done, too_few}
 use Rattle.bits.specs.Field.{field}
 use Rattle.reader.specs.declared.Cursor.{Cursor}
-use Rattle.reader.specs.declared.Moved.{Moved}
 use Rattle.reader.specs.Cursor.{place, bits_left, cursor_refusal}
-use Rattle.reader.specs.Answers.{moved}
+use Rattle.reader.specs.Answers.{Moved, moved}
 use Rattle.reader.proofs.CursorLaws.{own_done, gone_place, gone_own}
 use Rattle.layout.specs.Layout.{Item, item, are_layout, bits_of}
 use Rattle.layout.specs.Plan.{compile}

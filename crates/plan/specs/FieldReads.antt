@@ -3,8 +3,7 @@ use Rattle.std.specs.Prelude.{ℕ, List, [], ◌∷◌}
 use Rattle.bits.specs.declared.Order.{Order}
 use Rattle.bits.specs.Refusals.{done, or_else}
 use Rattle.reader.specs.declared.Cursor.{Cursor}
-use Rattle.reader.specs.declared.ReadU64.{ReadU64}
-use Rattle.reader.specs.Answers.{read_of}
+use Rattle.reader.specs.Answers.{ReadTold, read_of}
 use Rattle.layout.specs.Layout.{Item}
 use Rattle.plan.specs.Run.{pattern_of}
 
@@ -15,7 +14,7 @@ pub record Fields : Type 0 where
   pub cursor : Cursor
 
 -- a field that was read, and then the others
-abbrev pub and_then : Item → ReadU64 → Fields → Fields
+abbrev pub and_then : Item → ReadTold ℕ → Fields → Fields
 and_then f r others =
     record {
       refusal = or_else r.refusal others.refusal;

@@ -1,14 +1,13 @@
 -- What running a plan answers, by the fields of the layout that compiles to it, on every input.
-use Rattle.std.specs.Prelude.{ℕ, ◌+◌, cond, not, List, [], ◌∷◌, length, eqb, ltb}
+use Rattle.std.specs.Prelude.{ℕ, ◌+◌, ◌*◌, ◌≡◌, ◌≤◌, cond, not, List, [], ◌∷◌, length, eqb, ltb}
 use Rattle.std.proofs.lemmas.List.Edits.{sets}
 use Rattle.bits.specs.declared.Order.{Order}
-use Rattle.bits.specs.Refusals.{longest, too_long, bad_plan, no_room, too_few, ◌⟶◌, first_refusal, if_done}
+use Rattle.bits.specs.Refusals.{longest, done, too_long, bad_plan, no_room, too_few, ◌⟶◌, first_refusal, if_done}
 use Rattle.bits.specs.Field.{field}
 use Rattle.bits.specs.Signed.{signed, pattern}
 use Rattle.reader.specs.declared.Cursor.{Cursor}
-use Rattle.reader.specs.declared.Moved.{Moved}
-use Rattle.reader.specs.Answers.{moved}
-use Rattle.reader.specs.Cursor.{place, bits_left, gone_to, cursor_refusal}
+use Rattle.reader.specs.Answers.{Moved, moved}
+use Rattle.reader.specs.Cursor.{place, stop, bits_left, gone_to, cursor_refusal}
 use Rattle.layout.specs.Layout.{Item, bits_of}
 use Rattle.layout.specs.Plan.{decode}
 use Rattle.layout.specs.Check.{is_plan}
@@ -46,3 +45,10 @@ run_of o s c plan room =
 unfoldable pub run_out : Order → List ℕ → Cursor → List ℕ → List ℕ → List ℕ
 run_out o s c plan out =
     if_done (run_refusal o s c plan (length out)) (sets out 0 (values_of o s (place c) (fields_of plan))) out
+
+-- a plan may run in one go from place p on: it is that of a cursor that belongs, and no field ends past where reading stops
+pub record Clear (o : Order) (s : List ℕ) (c : Cursor) (plan : List ℕ) (p : ℕ) : Type 0 where
+  pub own : cursor_refusal o s c ≡ done
+  pub at : p ≡ place c
+  pub steps : length plan ≤ 256
+  pub ahead : p + 64 * length plan + 64 ≤ stop s c

@@ -1,40 +1,44 @@
 // Running plans that are known to be plans, for proved callers: checked once, run as often as one likes.
-ghost use Rattle.std.specs.Prelude.{◌≡◌, true, cond, [], ◌∷◌, ◌+◌, ◌-◌, ◌*◌, ◌^◌, ◌<◌, ◌≤◌, length, take};
+ghost use Rattle.std.specs.Prelude.{◌≡◌, true, cond, IfSome, MatchOption, [], ◌∷◌, ◌+◌, ◌-◌, ◌*◌, ◌^◌, ◌<◌, ◌≤◌, length, take};
 ghost use Rattle.std.proofs.lemmas.List.Edits.{sets};
-ghost use Rattle.bits.specs.Refusals.{longest, done};
+ghost use Rattle.bits.specs.Refusals.{longest, done, number_of};
 ghost use Rattle.bits.specs.Field.{field};
 ghost use Rattle.reader.specs.Cursor.{place as place_of};
 ghost use Rattle.layout.specs.Layout.{items_of, is_layout, bits_of};
 ghost use Rattle.layout.specs.Bytes.{bytes_of};
 ghost use Rattle.layout.specs.Plan.{ends, code};
 ghost use Rattle.layout.specs.Check.{is_plan};
-ghost use Rattle.plan.specs.Run.{pattern_of, values_of, fields_of, run_refusal};
+ghost use Rattle.layout.specs.Take.{Ready};
+ghost use Rattle.plan.specs.Run.{pattern_of, values_of, fields_of, run_refusal, Clear};
 
-use bits::{Order, refusals};
+use bits::{LONGEST, Order, Refusal};
 use reader::Cursor;
 
-// The refusal number of a run into `room` results.
-pub fn run_refusal(cursor: Cursor, order: Order, src: &[u8], plan: &[u8], room: usize) -> u32
-    ensures { result ≡ run_refusal order src.now cursor plan.now room }
+// Tests a run into `room` results: 1, 2, 6, 8 and 9.
+pub fn check_run(
+    cursor: Cursor,
+    order: Order,
+    src: &[u8],
+    plan: &[u8],
+    room: usize,
+) -> Result<(), Refusal>
+    ensures { number_of result ≡ run_refusal order src.now cursor plan.now room }
 {
-    if refusals::LONGEST < plan.len() {
-        return refusals::TOO_LONG;
+    if LONGEST < plan.len() {
+        return Err(Refusal::TooLong);
     }
-    let refusal = reader::inner::refusal(order, src, cursor);
-    if refusal != refusals::DONE {
-        return refusal;
+    reader::inner::check(order, src, cursor)?;
+    if !layout::inner::check::is_plan(plan) {
+        return Err(Refusal::BadPlan);
     }
-    if layout::inner::check::is_plan(plan) {
-        let size = layout::inner::size::measure(plan);
-        if room < size.fields {
-            return refusals::NO_ROOM;
-        }
-        if reader::inner::bits_left(src, cursor) < size.bits {
-            return refusals::TOO_FEW;
-        }
-        return refusals::DONE;
+    let size = layout::inner::size::measure(plan);
+    if room < size.fields {
+        return Err(Refusal::NoRoom);
     }
-    refusals::BAD_PLAN
+    if reader::inner::bits_left(src, cursor) < size.bits {
+        return Err(Refusal::TooFew);
+    }
+    Ok(())
 }
 
 // ---- from a plan to its layout
@@ -68,20 +72,17 @@ pub fn decode(plan: &[u8], layout: &mut [u8]) -> usize
 {
     let mut open: u8 = 0;
     let mut at: usize = 0;
-    let mut i: usize = 0;
-    while i < plan.len() {
-        let b = plan[i];
+    for &b in plan {
         let w = open + b % 64;
         at = put_item(layout, at, b, w);
         open = next_open(b, w);
-        i += 1;
     }
     at
 }
 
 // ---- the fields of a layout
 
-// The 64 bits of a field of a kind.
+// The 64 bits of a field of a kind, which is the layout's byte.
 fn pattern(kind: u8, w: u32, v: u64) -> u64
     requires { (w ≤ 64) × (v < 2 ^ w) }
     ensures { result ≡ pattern_of kind w v }
@@ -118,15 +119,10 @@ pub fn fields(order: Order, src: &[u8], layout: &[u8], place: usize, results: &m
 {
     let inside = place + 32 * layout.len() + 64 <= 8 * src.len();
     let mut at = place;
-    let mut i: usize = 0;
-    let mut j: usize = 0;
-    while i < layout.len() {
-        let kind = layout[i];
-        let w = layout[i + 1] as u32;
-        results[j] = pattern(kind, w, field_in(inside, order, src, at, w));
+    for (j, field) in layout.chunks_exact(2).enumerate() {
+        let w = field[1] as u32;
+        results[j] = pattern(field[0], w, field_in(inside, order, src, at, w));
         at += w as usize;
-        i += 2;
-        j += 1;
     }
     at
 }
@@ -144,112 +140,109 @@ pub fn run_plan(order: Order, src: &[u8], plan: &[u8], place: usize, results: &m
 
 // ---- in one go
 
-// What one go through a plan gives: how many fields were read, 65 if it did not get through, and where the last one ends.
-#[derive(Clone, Copy)]
+// What one go through a plan gives: how many fields were read, and where the last one ends.
+#[derive(Clone, Copy, Debug, PartialEq, Eq)]
 pub struct Narrow {
     pub fields: usize,
     pub end: usize,
 }
 
-// One that did not get through.
-fn not_narrow() -> Narrow
-    ensures { result.fields ≡ 65 }
+// Where the take of step i stands, behind its refill if there is one, and the bits known there; none where a refill is not wanted.
+fn ready(plan: &[u8], i: usize, g: u32) -> Option<(usize, u32)>
+    requires { (i < length plan.now) × (length plan.now ≤ 256) × (g ≤ 56) }
+    ensures { IfSome result (λ r. Ready plan.now i g r.0 r.1) }
 {
-    Narrow { fields: 65, end: 0 }
+    if plan[i] != 0 {
+        return Some((i, g));
+    }
+    if layout::inner::check::wanted(plan, i + 1, g) {
+        Some((i + 1, 56))
+    } else {
+        None
+    }
 }
 
-// Checks a plan and reads its fields in one go, if none is wide.
-fn read_narrow(order: Order, src: &[u8], plan: &[u8], place: usize, values: &mut [u64]) -> Narrow
+// Checks a plan and reads its fields in one go, if none is wide. (By an index: a field is one step, or two with a refill.)
+fn read_narrow(
+    order: Order,
+    src: &[u8],
+    plan: &[u8],
+    place: usize,
+    values: &mut [u64],
+) -> Option<Narrow>
     requires { (length src.now ≤ longest) × (length plan.now ≤ 256) × (place + 64 * length plan.now + 64 ≤ 8 * length src.now) × (64 ≤ length values.old) }
-    ensures answer { result.fields ≤ 64 → (is_plan plan.now ≡ true) × (result.fields ≡ length (fields_of plan.now)) × (result.end ≡ place + bits_of (fields_of plan.now)) × (result.end ≤ place + 64 * length plan.now) }
-    ensures memory { result.fields ≤ 64 → values.new ≡ sets values.old 0 (values_of order src.now place (fields_of plan.now)) }
+    ensures answer { IfSome result (λ r. (is_plan plan.now ≡ true) × (r.fields ≡ length (fields_of plan.now)) × (r.end ≡ place + bits_of (fields_of plan.now)) × (r.end ≤ place + 64 * length plan.now)) }
+    ensures memory { IfSome result (λ r. values.new ≡ sets values.old 0 (values_of order src.now place (fields_of plan.now))) }
 {
     let mut at = place;
     let mut i: usize = 0;
     let mut j: usize = 0;
     let mut g: u32 = 0;
     while i < plan.len() {
-        if plan[i] == 0 {
-            if layout::inner::check::wanted(plan, i + 1, g) {
-                i += 1;
-                g = 56;
-            } else {
-                return not_narrow();
-            }
-        }
-        let b = plan[i];
+        let (k, known) = ready(plan, i, g)?;
+        let b = plan[k];
         let w = layout::inner::steps::count(b);
-        if g < w {
-            return not_narrow();
+        if known < w || j == 64 || !layout::inner::steps::ends(b) {
+            return None;
         }
-        if layout::inner::steps::ends(b) {
-            if j == 64 {
-                return not_narrow();
-            }
-            values[j] = pattern(b / 64 - 1, w, words::inner::whole_field(order, src, at, w));
-            at += w as usize;
-            i += 1;
-            g -= w;
-            j += 1;
-        } else {
-            return not_narrow();
-        }
+        values[j] = pattern(b / 64 - 1, w, words::inner::whole_field(order, src, at, w));
+        at += w as usize;
+        i = k + 1;
+        g = known - w;
+        j += 1;
     }
-    Narrow { fields: j, end: at }
+    Some(Narrow { fields: j, end: at })
 }
 
-// Puts the first n values at the front of the results.
-fn put_front(results: &mut [u64], values: &[u64], n: usize)
-    requires { (n ≤ length results.old) × (n ≤ length values.now) }
-    ensures { results.new ≡ sets results.old 0 (take n values.now) }
-{
-    let mut i: usize = 0;
-    while i < n {
-        results[i] = values[i];
-        i += 1;
-    }
-}
-
-// Runs a plan in one go, if no field is wide and there is room; else nothing is put.
-fn run_narrow(order: Order, src: &[u8], plan: &[u8], place: usize, results: &mut [u64]) -> Narrow
+// Runs a plan in one go, if no field is wide and there is room; the answer is where the last field ends. Else nothing is put.
+fn run_narrow(
+    order: Order,
+    src: &[u8],
+    plan: &[u8],
+    place: usize,
+    results: &mut [u64],
+) -> Option<usize>
     requires { (length src.now ≤ longest) × (length plan.now ≤ 256) × (place + 64 * length plan.now + 64 ≤ 8 * length src.now) }
-    ensures answer { result.fields ≤ 64 → (is_plan plan.now ≡ true) × (length (fields_of plan.now) ≤ length results.old) × (result.end ≡ place + bits_of (fields_of plan.now)) × (result.end ≤ place + 64 * length plan.now) }
-    ensures memory { (result.fields ≤ 64 → results.new ≡ sets results.old 0 (values_of order src.now place (fields_of plan.now))) × (64 < result.fields → results.new ≡ results.old) }
+    ensures answer { IfSome result (λ end. (is_plan plan.now ≡ true) × (length (fields_of plan.now) ≤ length results.old) × (end ≡ place + bits_of (fields_of plan.now)) × (end ≤ place + 64 * length plan.now)) }
+    ensures memory { MatchOption result (results.new ≡ results.old) (λ end. results.new ≡ sets results.old 0 (values_of order src.now place (fields_of plan.now))) }
 {
     let mut values = [0u64; 64];
-    let read = read_narrow(order, src, plan, place, &mut values);
-    if read.fields <= 64 {
-        if read.fields <= results.len() {
-            put_front(results, &values, read.fields);
-            return read;
-        }
+    let read = read_narrow(order, src, plan, place, &mut values)?;
+    let n = read.fields;
+    if results.len() < n {
+        return None;
     }
-    not_narrow()
+    results[..n].copy_from_slice(&values[..n]);
+    Some(read.end)
 }
 
-// Runs a plan from a cursor on in one go, if no field is wide, nothing is refused, and the slice goes on behind it; else nothing is
-// put. (One call for each order, so that the compiler leaves the loop out of line and splits it.)
+// The place of a cursor from where a plan can run in one go: the plan is short, and the slice goes on behind its fields.
+fn clear_place(cursor: Cursor, order: Order, src: &[u8], plan: &[u8]) -> Option<usize>
+    ensures { IfSome result (λ place. Clear order src.now cursor plan.now place) }
+{
+    if 256 < plan.len() || reader::inner::check(order, src, cursor).is_err() {
+        return None;
+    }
+    let place = reader::inner::place_of(src, cursor);
+    if reader::inner::stop(src, cursor) < place + 64 * plan.len() + 64 {
+        return None;
+    }
+    Some(place)
+}
+
+// Runs a plan from a cursor on in one go, if no field is wide, nothing is refused, and the slice goes on behind it; the answer is where
+// the last field ends. Else nothing is put. (One call for each order, so that the compiler leaves the loop out of line and splits it.)
 pub fn run_quick(
     cursor: Cursor,
     order: Order,
     src: &[u8],
     plan: &[u8],
     results: &mut [u64],
-) -> Narrow
-    ensures answer { result.fields ≤ 64 → (run_refusal order src.now cursor plan.now (length results.old) ≡ done) × (result.end ≡ place_of cursor + bits_of (fields_of plan.now)) }
-    ensures memory { (result.fields ≤ 64 → results.new ≡ sets results.old 0 (values_of order src.now (place_of cursor) (fields_of plan.now))) × (64 < result.fields → results.new ≡ results.old) }
+) -> Option<usize>
+    ensures answer { IfSome result (λ end. (run_refusal order src.now cursor plan.now (length results.old) ≡ done) × (end ≡ place_of cursor + bits_of (fields_of plan.now))) }
+    ensures memory { MatchOption result (results.new ≡ results.old) (λ end. results.new ≡ sets results.old 0 (values_of order src.now (place_of cursor) (fields_of plan.now))) }
 {
-    if 256 < plan.len() {
-        return not_narrow();
-    }
-    let refusal = reader::inner::refusal(order, src, cursor);
-    if refusal != refusals::DONE {
-        return not_narrow();
-    }
-    let place = reader::inner::place_of(src, cursor);
-    if reader::inner::stop(src, cursor) < place + 64 * plan.len() + 64 {
-        return not_narrow();
-    }
+    let place = clear_place(cursor, order, src, plan)?;
     match order {
         Order::Little => run_narrow(Order::Little, src, plan, place, results),
         Order::Big => run_narrow(Order::Big, src, plan, place, results),

@@ -1,5 +1,5 @@
 -- Laws of spelled numbers: they are whole parts and decimals, and spell the number.
-use Prim.Native.Nat.{ℕ, zero, suc, ◌+◌, ◌*◌, ◌/◌, ◌%◌, ◌^◌, ◌<◌, ◌≤◌}
+use Prim.Native.Nat.{ℕ, zero, suc, max, ◌+◌, ◌*◌, ◌/◌, ◌%◌, ◌^◌, ◌<◌, ◌≤◌}
 use mathlib.Core.Path.{◌≡◌, refl, sym, ap, ◌∙◌}
 use mathlib.Core.Bool.{Bool, true, false, cond}
 use mathlib.Core.List.{List, [], ◌∷◌, ◌++◌}
@@ -116,6 +116,25 @@ places-more k n h l =
     let m = places_many k 9 n l f in
     (omega arith, f))
     (λ e. let p : 10 ^ 10 ≤ 10 ^ k = pow-le-pow_right (zero-lt-suc 9) (leb-false k 9 e) in absurd (omega arith))
+
+-- the power of ten at or below a number tells how many it takes; 0 takes as many as 1
+pub places_log : (k n : ℕ) → n < 10 ^ 10 → 10 ^ k ≤ max n 1 → max n 1 < 10 * 10 ^ k → k + 1 ≡ places n
+places_log k n h l m =
+    let p : 10 ^ suc k ≡ 10 * 10 ^ k = pow-succ' 10 k in
+    let below : n < 10 ^ suc k = omega arith in
+    let many : suc k ≤ places n =
+    by_test (ltb 0 n)
+    (λ e. let some = ltb-true 0 n e in let q = (places-more k n h (omega arith)).0 in omega arith)
+    (λ e. let none = ltb-false 0 n e in by k (places_some 9 n) (omega arith)) in
+    let q = places_are (suc k) n (omega arith) below many in
+    omega arith
+  where
+    by : (k : ℕ) → 1 ≤ places n → 10 ^ k ≤ 1 → suc k ≤ places n
+    by zero s l = s
+    by (suc k) s l =
+        let p : 10 ^ suc k ≡ 10 * 10 ^ k = pow-succ' 10 k in
+        let q : 1 ≤ 10 ^ k = one-le-pow k 10 (zero-lt-suc 9) in
+        absurd (omega arith)
 
 -- ---- whole parts
 

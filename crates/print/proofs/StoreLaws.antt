@@ -1,5 +1,5 @@
 -- Laws of texts put into an output.
-use Prim.Native.Nat.{ℕ, suc, ◌+◌, ◌/◌, ◌%◌, ◌≤◌}
+use Prim.Native.Nat.{ℕ, suc, ◌+◌, ◌-◌, ◌/◌, ◌%◌, ◌<◌, ◌≤◌}
 use mathlib.Core.Path.{◌≡◌, refl, sym, ap, ap₂, ◌∙◌}
 use mathlib.Core.List.{List, [], ◌∷◌, ◌++◌, append_assoc}
 use lib.ListN.{length, set, length-append}
@@ -23,13 +23,19 @@ sets-set (x ∷ xs) l i j a h =
 -- ---- digits, put from the last to the first
 
 -- the last digit is put, and those before it are still to be
-pub digits_store : (out : List ℕ) (at i n : ℕ) → sets (set out (at + i) (zero_digit + n % 10)) at (digits_of i (n / 10)) ≡ sets out at (digits_of (suc i) n)
+pub digits_store : (out : List ℕ) (at i n : ℕ) → at < i
+    → sets (set out (i - 1) (zero_digit + n % 10)) at (digits_of (i - 1 - at) (n / 10)) ≡ sets out at (digits_of (i - at) n)
 unfolding digits_of
-digits_store out at i n =
-    let d = digits_length i (n / 10) in
-    sets-set (digits_of i (n / 10)) out at (at + i) (zero_digit + n % 10) (omega arith)
-    ∙ ap (λ (k : ℕ). set (sets out at (digits_of i (n / 10))) (at + k) (zero_digit + n % 10)) (sym d)
-    ∙ sym (sets-append (digits_of i (n / 10)) ((zero_digit + n % 10) ∷ []) out at)
+digits_store out at i n h =
+    let k : ℕ = i - 1 - at in
+    let b = zero_digit + n % 10 in
+    let d = digits_length k (n / 10) in
+    let e : at + length (digits_of k (n / 10)) ≡ i - 1 = omega arith in
+    let f : suc k ≡ i - at = omega arith in
+    sets-set (digits_of k (n / 10)) out at (i - 1) b (omega arith)
+    ∙ ap (λ (j : ℕ). set (sets out at (digits_of k (n / 10))) j b) (sym e)
+    ∙ sym (sets-append (digits_of k (n / 10)) (b ∷ []) out at)
+    ∙ ap (λ (j : ℕ). sets out at (digits_of j n)) f
 
 -- ---- a text put piece by piece
 

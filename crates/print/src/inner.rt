@@ -7,13 +7,7 @@ ghost use Rattle.print.specs.Print.{digits_of, places as places_of, whole_of, fi
 pub fn places(n: u32) -> usize
     ensures { (result ≡ places_of n) × (result ≤ 10) }
 {
-    let mut k: usize = 1;
-    let mut top: u64 = 10;
-    while n as u64 >= top {
-        top *= 10;
-        k += 1;
-    }
-    k
+    n.max(1).ilog10() as usize + 1
 }
 
 // Puts the last k digits of a number at a place.
@@ -21,11 +15,9 @@ fn put_digits(out: &mut [u8], at: usize, n: u32, k: usize)
     requires { at + k ≤ length out.old }
     ensures { out.new ≡ sets out.old at (digits_of k n) }
 {
-    let mut i = k;
     let mut rest = n;
-    while i > 0 {
-        i -= 1;
-        out[at + i] = b'0' + ((rest % 10) as u8);
+    for i in (at..at + k).rev() {
+        out[i] = b'0' + (rest % 10) as u8;
         rest /= 10;
     }
 }

@@ -1,48 +1,65 @@
-// Reading standard input, writing standard output, and telling on standard error where either fails.
-ghost use Rattle.std.specs.Prelude.{◌≤◌, length};
+// Reading standard input, doing a job on it, writing standard output, and telling on standard error where either fails.
+ghost use Rattle.std.specs.Prelude.{◌≡◌, ℕ, List, MatchResult, ◌<◌, ◌≤◌, length, take};
 
 use std::io::Read;
 
-// How many bytes were read, and whether a read failed.
-#[derive(Clone, Copy)]
-pub struct Input {
-    pub count: usize,
-    pub failed: bool,
+// A job: all that a program writes for all that it reads, and how many bytes are room for every answer.
+pub trait Job {
+    ghost answer: { List ℕ → List ℕ };
+
+    ghost room: { ℕ };
+
+    // Puts the answer at the front of an output, and answers its length.
+    fn answer(input: &[u8], out: &mut [u8]) -> usize
+        requires has_room { room ≤ length out.old }
+        requires in_limit { length out.old ≤ 16777216 }
+        ensures in_bounds { result ≤ length out.new }
+        ensures value { take result out.new ≡ answer input.now };
 }
 
-// Reads standard input until it ends, the buffer is full, or a read fails.
-pub fn read_input(stdin: &mut impl Read, buf: &mut [u8]) -> Input
-    ensures { result.count ≤ length buf.old }
+// Does a job: all that is written to standard output is its answer to all that is read from standard input, into a space that holds more
+// than a program takes.
+pub fn run<J: Job>(
+    stdin: &mut impl Read,
+    rt: &(impl Print + Eprint),
+    space: &mut [u8],
+    out: &mut [u8],
+)
+    requires most_taken_in_bounds { 65536 < length space.old }
+    requires has_room { J.room ≤ length out.old }
+    requires in_limit { length out.old ≤ 16777216 }
+{
+    let Ok(n) = read_input(stdin, space) else {
+        tell(rt, "standard input can't be read\n");
+        return;
+    };
+    let length = J::answer(&space[..n], out);
+    write_answer::<J>(rt, space, n, &out[..length]);
+}
+
+// Reads standard input until it ends or the buffer is full, and answers how many bytes were read; where a read fails, how many came before.
+// (By a count: each read brings as many bytes as it likes.)
+pub fn read_input(stdin: &mut impl Read, buf: &mut [u8]) -> Result<usize, usize>
+    ensures { MatchResult result (λ n. n ≤ length buf.old) (λ n. n ≤ length buf.old) }
 {
     let mut done = 0;
     while done < buf.len() {
         let Ok(n) = stdin.read(&mut buf[done..]) else {
-            return Input {
-                count: done,
-                failed: true,
-            };
+            return Err(done);
         };
         if n == 0 {
-            return Input {
-                count: done,
-                failed: false,
-            };
+            break;
         }
         done += n;
     }
-    Input {
-        count: done,
-        failed: false,
-    }
+    Ok(done)
 }
 
-// Tells on standard error that a read failed.
-pub fn tell_unread(rt: &impl Eprint) {
-    tell(rt, "standard input can't be read\n");
-}
-
-// Writes to standard output, and tells a failure on standard error.
-pub fn write_output(rt: &(impl Print + Eprint), some: &[u8]) {
+// Writes the answer to the first n bytes of a space that holds more than a program takes, and tells a failure on standard error.
+fn write_answer<J: Job>(rt: &(impl Print + Eprint), space: &[u8], n: usize, some: &[u8])
+    requires most_taken_in_bounds { 65536 < length space.now }
+    requires answer_value { some.now ≡ J.answer (take n space.now) }
+{
     if rt.write_all(some).is_ok() {
         return;
     }

@@ -19,10 +19,9 @@ use Rattle.counts.proofs.PlaceLaws as P
 use Rattle.octets.specs.Octets.{octets}
 use Rattle.octets.proofs.OctetsLaws.{length-octets, get_d_octets}
 use Rattle.reader.specs.declared.Cursor.{Cursor}
-use Rattle.reader.specs.declared.ReadU64.{ReadU64}
 use Rattle.reader.specs.Cursor.{place, stop, cursor_at, gone_to, bits_left, bytes_left, unfetched, ahead_in, cursor_refusal, counts_in, Fits, Own, Alike}
 use Rattle.reader.proofs.CursorLaws.{left_stop, left_le, bytes_bits, ahead_left, refusal_own, own_done}
-use Rattle.reader.specs.Answers.{read_refusal, read_of, bytes_refusal, bytes_of, bytes_out, manual_refusal, peek_of, consume_of, refill_of, remainder_refusal, start_of, remainder_of, partial_of, lower_refusal}
+use Rattle.reader.specs.Answers.{ReadTold, read_refusal, read_of, bytes_refusal, bytes_of, bytes_out, manual_refusal, peek_of, consume_of, refill_of, remainder_refusal, start_of, remainder_of, partial_of, lower_refusal}
 use Rattle.reader.proofs.AnswerLaws.{read_granted, bytes_granted, manual_granted, remainder_granted}
 use Rattle.reader.proofs.ReadLaws.{read_refused, read_value, read_place, bytes_advanced, consume_advanced, refill_advanced}
 
@@ -115,8 +114,8 @@ module _ (o : Order) (s : List ℕ) (c : Cursor) (t : List ℕ) (d : Cursor) (h 
       (λ q.
       let e = read_refused o s c w (eqb-false _ _ q) in
       let f = read_refused o t d w (λ z. eqb-false _ _ q (alike_refusal w ∙ z)) in (
-        ap (λ (r : ReadU64). r.value) e ∙ sym (ap (λ (r : ReadU64). r.value) f),
-        ap (λ (r : ReadU64). place r.cursor) e ∙ h.here ∙ sym (ap (λ (r : ReadU64). place r.cursor) f),
+        ap (λ (r : ReadTold ℕ). r.value) e ∙ sym (ap (λ (r : ReadTold ℕ). r.value) f),
+        ap (λ (r : ReadTold ℕ). place r.cursor) e ∙ h.here ∙ sym (ap (λ (r : ReadTold ℕ). place r.cursor) f),
       ))
 
   -- ---- bytes
@@ -186,6 +185,7 @@ module _ (o : Order) (s : List ℕ) (c : Cursor) (t : List ℕ) (d : Cursor) (h 
   pub alike_partial : partial_of o s c ≡ partial_of o t d
   unfolding partial_of stop
   alike_partial =
+      let value =
       if_alike alike_remainder
       (λ e.
       let (own, even) = remainder_granted o s c e in
@@ -193,8 +193,8 @@ module _ (o : Order) (s : List ℕ) (c : Cursor) (t : List ℕ) (d : Cursor) (h 
       let n : c.lookahead % 8 ≡ d.lookahead % 8 = omega (arith, own.fits.within.behind, theirs.fits.within.behind, h.here) in
       let v = alike_field (place c) (c.lookahead % 8) (omega (arith, own.fits.within.behind, own.fits.reached, even)) in
       let w = v ∙ ap₂ (field o t) h.here n in
-      λ i. record { refusal = done; partial_bits = n i; partial_byte = w i })
-      (λ i. record { refusal = alike_remainder i; partial_bits = 0; partial_byte = 0 })
+      λ i. record { partial_bits = n i; partial_byte = w i }) refl in
+      λ i. record { refusal = alike_remainder i; value = value i }
 
   -- ---- manual mode
 

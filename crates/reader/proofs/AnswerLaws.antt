@@ -13,8 +13,11 @@ use borrow.Author.Tests.{eq-eqb, ne_eqb, eqb-true, eqb-false}
 use mir.Syntax.{Width, w64}
 use mir.Val.{SFits, bits, to_z, of_z}
 use Rattle.bits.specs.declared.Order.{Order}
-use Rattle.bits.specs.Refusals.{done}
-use Rattle.bits.proofs.RefusalLaws.{passed, at_most, test_held}
+use Rattle.std.specs.Prelude.{Result}
+use Rattle.std.specs.Result.{IsErrAnd}
+use Rattle.bits.specs.declared.Refusal.{Refusal}
+use Rattle.bits.specs.Refusals.{done, number}
+use Rattle.bits.proofs.RefusalLaws.{handed_on, passed, at_most, test_held}
 use Rattle.bits.proofs.FieldLaws.{field_lt}
 use Rattle.bits.specs.Signed.{signed}
 use Rattle.counts.proofs.BytesLaws.{bytes_none as none-counts}
@@ -22,10 +25,10 @@ use Rattle.octets.specs.Octets.{firsts, octets}
 use Rattle.sign.proofs.SignedLaws.{signed_low, narrowed}
 use Rattle.floats.proofs.FloatLaws.{cond_either}
 use Rattle.reader.specs.declared.Cursor.{Cursor}
-use Rattle.reader.specs.declared.ReadU64.{ReadU64}
+use Rattle.reader.specs.declared.Read.{Read}
 use Rattle.reader.specs.Cursor.{counts_in, cursor_at, place, bits_left, bytes_left, ahead_in, Own}
 use Rattle.reader.proofs.CursorLaws.{refusal_own, own_at}
-use Rattle.reader.specs.Answers.{read_refusal, read_of, bytes_refusal, bytes_of, bytes_out, manual_refusal, remainder_refusal, lower_refusal}
+use Rattle.reader.specs.Answers.{ReadTold, read_told, read_refusal, read_of, bytes_refusal, bytes_of, bytes_out, manual_refusal, remainder_refusal, lower_refusal}
 
 -- ---- what a call that is not refused may rely on
 
@@ -66,43 +69,52 @@ module _ (o : Order) (s : List ℕ) (c : Cursor) (w : ℕ) where
   pub read_refusal_lem : (read_of o s c w).refusal ≡ read_refusal o s c w
   unfolding read_of
   read_refusal_lem =
-      cond_either (λ (r : ReadU64). r.refusal ≡ read_refusal o s c w) (eqb (read_refusal o s c w) done)
+      cond_either (λ (r : ReadTold ℕ). r.refusal ≡ read_refusal o s c w) (eqb (read_refusal o s c w) done)
       (λ t. sym (eqb-true _ _ t)) (λ t. refl)
 
   -- a value is below 2 to its width
   pub read_lt : (read_of o s c w).value < 2 ^ w
   unfolding read_of
   read_lt =
-      cond_either (λ (r : ReadU64). r.value < 2 ^ w) (eqb (read_refusal o s c w) done)
+      cond_either (λ (r : ReadTold ℕ). r.value < 2 ^ w) (eqb (read_refusal o s c w) done)
       (λ t. field_lt o s _ w) (λ t. pow_pos w)
 
   -- a refused value is 0
   pub refused_value : ((read_of o s c w).refusal ≡ done → ⊥) → (read_of o s c w).value ≡ 0
   unfolding read_of
   refused_value =
-      cond_either (λ (r : ReadU64). (r.refusal ≡ done → ⊥) → r.value ≡ 0) (eqb (read_refusal o s c w) done)
+      cond_either (λ (r : ReadTold ℕ). (r.refusal ≡ done → ⊥) → r.value ≡ 0) (eqb (read_refusal o s c w) done)
       (λ t h. absurd (h refl)) (λ t h. refl)
 
   -- the same of an answer in hand
-  module _ {r : ReadU64} (e : r ≡ read_of o s c w) where
+  module _ {r : ReadTold ℕ} (e : r ≡ read_of o s c w) where
     pub answered_refusal : r.refusal ≡ read_refusal o s c w
-    answered_refusal = ap (λ (x : ReadU64). x.refusal) e ∙ read_refusal_lem
+    answered_refusal = ap (λ (x : ReadTold ℕ). x.refusal) e ∙ read_refusal_lem
 
     pub answered-lt : r.value < 2 ^ w
-    answered-lt = subst (λ (x : ReadU64). x.value < 2 ^ w) (sym e) read_lt
+    answered-lt = subst (λ (x : ReadTold ℕ). x.value < 2 ^ w) (sym e) read_lt
 
     pub refused_signed : (r.refusal ≡ done → ⊥) → pos 0 ≡ signed w (read_of o s c w).value
     refused_signed h =
-        sym (ap (signed w) (refused_value (λ z. h (ap (λ (x : ReadU64). x.refusal) e ∙ z))) ∙ signed-zero w)
+        sym (ap (signed w) (refused_value (λ z. h (ap (λ (x : ReadTold ℕ). x.refusal) e ∙ z))) ∙ signed-zero w)
 
 -- a read as the machine's signed number of its width: the cast of what sign extension gives is defined, and loses nothing
 pub signed_cast :
-    (o : Order) (s : List ℕ) (c : Cursor) (w : Width) {r : ReadU64} {z : ℤ} →
+    (o : Order) (s : List ℕ) (c : Cursor) (w : Width) {r : ReadTold ℕ} {z : ℤ} →
     r ≡ read_of o s c (bits w) → SFits w64 z → z ≡ signed (bits w) r.value →
     SFits w (to_z w64 (of_z w64 z)) × (to_z w (of_z w (to_z w64 (of_z w64 z))) ≡ signed (bits w) (read_of o s c (bits w)).value)
 signed_cast o s c w {r} e f g =
     let (defined, same) = narrowed w r.value (answered-lt o s c (bits w) e) f g in
-    (defined, same ∙ ap (λ (x : ReadU64). signed (bits w) x.value) e)
+    (defined, same ∙ ap (λ (x : ReadTold ℕ). signed (bits w) x.value) e)
+
+-- a refusal of a read that a `?` hands on is one of the read by f, where f of no bits set is `none`
+pub refused_as :
+    {A : Type 0} (f : ℕ → A) (none : A) (c : Cursor) (r : Result (Read A) Refusal) (e : Refusal) {x : ReadTold ℕ} →
+    f 0 ≡ none → IsErrAnd r (λ y. y ≡ e) → record { refusal = number e; value = 0; cursor = c } ≡ x
+    → read_told none c r ≡ record { refusal = x.refusal; value = f x.value; cursor = x.cursor }
+refused_as f none c r e z h p =
+    ap (read_told none c) (handed_on r e h) ∙ (λ i. record { refusal = number e; value = sym z i; cursor = c })
+    ∙ ap (λ (y : ReadTold ℕ). record { refusal = y.refusal; value = f y.value; cursor = y.cursor }) p
 
 -- ---- no bytes, refused or not
 

@@ -1,13 +1,17 @@
 -- Laws of cursors: what a refusal tells, what is left up to the stop, and that a cursor gone on still belongs.
 use Prim.Native.Nat.{ℕ, ◌+◌, ◌*◌, ◌≤◌}
 use mathlib.Core.Path.{◌≡◌, refl, sym}
+use mathlib.Core.Bool.{true, false, true≢false}
 use mathlib.Core.List.{List}
 use native.Mathlib.Omega.{arith}
 use lib.ListN.{length}
 use borrow.Author.Tests.{le-ltb}
+use Rattle.std.specs.Prelude.{Result, Ok, Err}
+use Rattle.std.specs.Result.{is_err}
 use Rattle.bits.specs.declared.Order.{Order}
-use Rattle.bits.specs.Refusals.{done}
-use Rattle.bits.proofs.RefusalLaws.{passed, all_pass, at_most}
+use Rattle.bits.specs.declared.Refusal.{Refusal}
+use Rattle.bits.specs.Refusals.{done, number_of}
+use Rattle.bits.proofs.RefusalLaws.{passed, all_pass, at_most, number_ne}
 use Rattle.counts.specs.declared.Counts.{Counts}
 use Rattle.counts.specs.Counts as C
 use Rattle.counts.proofs.CountLaws as L
@@ -80,6 +84,16 @@ module _ {o : Order} {s : List ℕ} {c : Cursor} where
   unfolding cursor_refusal
   own_done h =
       all_pass _ (S.belongs_refusal o s (state_in c) (own_state h), (rw (le-ltb _ _ h.fits.reached), rw (le-ltb _ _ h.fits.stops)))
+
+-- what a test tells by whether it is an error
+module _ {A : Type 0} where
+  pub told_refused : (r : Result A Refusal) → is_err r ≡ true → number_of r ≡ done → ⊥
+  told_refused (Ok x) t z = true≢false (sym t)
+  told_refused (Err e) t z = number_ne e z
+
+  pub told_done : (r : Result A Refusal) → is_err r ≡ false → number_of r ≡ done
+  told_done (Ok x) t = refl
+  told_done (Err e) t = absurd (true≢false t)
 
 -- ---- cursors gone on
 

@@ -20,10 +20,9 @@ use Rattle.lookahead.specs.State.{state_refusal}
 use Rattle.lookahead.proofs.StateLaws.{refusal_belongs}
 use Rattle.floats.proofs.FloatLaws.{cond_either}
 use Rattle.reader.specs.declared.Cursor.{Cursor}
-use Rattle.reader.specs.declared.ReadU64.{ReadU64}
 use Rattle.reader.specs.Cursor.{state_in, counts_in, ending_at, place, stop, cursor_at, bits_left, bytes_left, unfetched, ahead_in, cursor_refusal}
 use Rattle.reader.proofs.CursorLaws.{refusal_own, own_done, at_stop}
-use Rattle.reader.specs.Answers.{read_refusal, read_of, bytes_refusal, bytes_of, bytes_out, manual_refusal, peek_of, consume_of, refill_of, remainder_refusal, start_of, remainder_of, lower_refusal, lower_of}
+use Rattle.reader.specs.Answers.{ReadTold, read_refusal, read_of, bytes_refusal, bytes_of, bytes_out, manual_refusal, peek_of, consume_of, refill_of, remainder_refusal, start_of, remainder_of, lower_refusal, lower_of}
 use Rattle.reader.proofs.AnswerLaws.{lower_granted}
 use Rattle.reader.proofs.ReadLaws.{read_done, read_value, bytes_octets}
 
@@ -36,7 +35,7 @@ module _ (o : Order) (s : List ℕ) (c : Cursor) where
 
   pub read_stop : (w : ℕ) → stop s (read_of o s c w).cursor ≡ stop s c
   unfolding read_of
-  read_stop w = cond_either (λ (r : ReadU64). stop s r.cursor ≡ stop s c) (eqb (read_refusal o s c w) done) (λ t. at_stop o s c _) (λ t. refl)
+  read_stop w = cond_either (λ (r : ReadTold ℕ). stop s r.cursor ≡ stop s c) (eqb (read_refusal o s c w) done) (λ t. at_stop o s c _) (λ t. refl)
 
   pub read_end : (w : ℕ) → (read_of o s c w).cursor.end ≡ c.end
   unfolding stop
@@ -105,7 +104,7 @@ module _ (o : Order) (s : List ℕ) (c : Cursor) (e : ℕ) where
   unfolding cursor_at
   two_read w z y = (
     read_value o s other w y ∙ sym (read_value o s c w z),
-    ap (λ (r : ReadU64). r.cursor) (read_done o s other w y) ∙ ap (λ (r : ReadU64). ending_at r.cursor e) (sym (read_done o s c w z)),
+    ap (λ (r : ReadTold ℕ). r.cursor) (read_done o s other w y) ∙ ap (λ (r : ReadTold ℕ). ending_at r.cursor e) (sym (read_done o s c w z)),
   )
 
   -- the cursor of a call that is done either way

@@ -4,3 +4,4 @@ pub mod ReadLaws
 pub mod RemainderLaws
 pub mod EndLaws
 pub mod AlikeLaws
+pub mod ToldLaws

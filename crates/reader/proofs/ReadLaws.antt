@@ -26,10 +26,9 @@ use Rattle.lookahead.proofs.StateLaws.{state_belongs, inside_is}
 use Rattle.octets.specs.Octets.{octets}
 use Rattle.octets.proofs.OctetsLaws.{get_d_octets}
 use Rattle.reader.specs.declared.Cursor.{Cursor}
-use Rattle.reader.specs.declared.ReadU64.{ReadU64}
 use Rattle.reader.specs.Cursor.{counts_in, cursor_at, place, stop, bits_left, cursor_refusal, inside_end, is_inside, Own}
 use Rattle.reader.proofs.CursorLaws.{left_stop, left_le, bytes_bits, bytes_le, ahead_left, ahead-held, refusal_own, own_done, at_place, at_stop, at_own}
-use Rattle.reader.specs.Answers.{new_of, read_refusal, read_of, bytes_refusal, bytes_of, bytes_out, manual_refusal, peek_of, consume_of, refill_of}
+use Rattle.reader.specs.Answers.{ReadTold, new_of, read_refusal, read_of, bytes_refusal, bytes_of, bytes_out, manual_refusal, peek_of, consume_of, refill_of}
 use Rattle.reader.proofs.AnswerLaws.{read_granted, manual_granted, bytes_granted}
 
 -- ---- cursors that go on
@@ -115,12 +114,12 @@ module _ (o : Order) (s : List ℕ) (c : Cursor) (w : ℕ) where
     read_done = sym (if_done_lem refl _ _ e)
 
     pub read_value : (read_of o s c w).value ≡ field o s (place c) w
-    read_value = ap (λ (r : ReadU64). r.value) read_done
+    read_value = ap (λ (r : ReadTold ℕ). r.value) read_done
 
     pub read_advanced : Advanced o s w c (read_of o s c w).cursor
     read_advanced =
         let (h, a, b) = read_granted o s c w e in
-        advance h (read_moved h.fits.within w a (le_trans b (left_le h.fits))) b (ap (λ (r : ReadU64). r.cursor) read_done)
+        advance h (read_moved h.fits.within w a (le_trans b (left_le h.fits))) b (ap (λ (r : ReadTold ℕ). r.cursor) read_done)
 
     pub read_belongs : cursor_refusal o s (read_of o s c w).cursor ≡ done
     read_belongs = read_advanced.belongs

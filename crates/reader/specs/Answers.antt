@@ -1,49 +1,54 @@
 -- What each method of a cursor answers, on every input, in the order of the methods.
-use Rattle.std.specs.Prelude.{ℕ, ◌-◌, ◌*◌, ◌/◌, ◌%◌, List, [], ◌∷◌, Bool, false, not, cond, length, eqb, ltb}
+use Rattle.std.specs.Prelude.{ℕ, ℤ, Result, Ok, Err, ◌-◌, ◌*◌, ◌/◌, ◌%◌, List, [], ◌∷◌, Bool, false, not, cond, length, eqb, ltb}
 use Rattle.std.proofs.Math.Seq.{slice}
 use Rattle.bits.specs.declared.Order.{Order}
-use Rattle.bits.specs.Refusals.{longest, done, too_long, too_wide, too_few, past_lookahead, bad_end, end_in_byte, ◌⟶◌, first_refusal, if_done}
+use Rattle.bits.specs.Refusals.{Told, told_by, number, longest, done, too_long, too_wide, too_few, past_lookahead, bad_end, end_in_byte, ◌⟶◌, first_refusal, if_done}
+use Rattle.bits.specs.declared.Refusal.{Refusal}
 use Rattle.bits.specs.Field.{field}
 use Rattle.bits.specs.Signed.{signed}
 use Rattle.counts.specs.Counts.{after_refill, after_take, after_read, after_bytes}
 use Rattle.octets.specs.Octets.{octets}
 use Rattle.floats.specs.Floats.{single_of, double_of}
+use Rattle.floats.specs.declared.Single.{Single}
+use Rattle.floats.specs.declared.Double.{Double}
 use Rattle.reader.specs.declared.Cursor.{Cursor}
-use Rattle.reader.specs.declared.ReadBool.{ReadBool}
-use Rattle.reader.specs.declared.ReadU8.{ReadU8}
-use Rattle.reader.specs.declared.ReadI8.{ReadI8}
-use Rattle.reader.specs.declared.ReadU16.{ReadU16}
-use Rattle.reader.specs.declared.ReadI16.{ReadI16}
-use Rattle.reader.specs.declared.ReadU32.{ReadU32}
-use Rattle.reader.specs.declared.ReadI32.{ReadI32}
-use Rattle.reader.specs.declared.ReadF32.{ReadF32}
-use Rattle.reader.specs.declared.ReadU64.{ReadU64}
-use Rattle.reader.specs.declared.ReadI64.{ReadI64}
-use Rattle.reader.specs.declared.ReadF64.{ReadF64}
-use Rattle.reader.specs.declared.Counted.{Counted}
-use Rattle.reader.specs.declared.Tested.{Tested}
-use Rattle.reader.specs.declared.Ahead.{Ahead}
-use Rattle.reader.specs.declared.Peeked.{Peeked}
-use Rattle.reader.specs.declared.Moved.{Moved}
+use Rattle.reader.specs.declared.Read.{Read}
 use Rattle.reader.specs.declared.Partial.{Partial}
 use Rattle.reader.specs.Cursor.{counts_in, cursor_at, ending_at, place, bits_left, bytes_left, ahead_in, cursor_refusal}
 
--- ---- answers of two parts: a refusal number, and what is told, tested, seen or gone to
+-- ---- what is told: the number of a refusal or done, and what there is with it
 
-abbrev pub counted : ℕ → ℕ → Counted
-counted e n = record { refusal = e; value = n }
+-- of a read: a value, and the cursor that goes on
+pub record ReadTold (A : Type 0) : Type 0 where
+  pub refusal : ℕ
+  pub value : A
+  pub cursor : Cursor
 
-abbrev pub tested : ℕ → Bool → Tested
-tested e b = record { refusal = e; value = b }
-
-abbrev pub ahead : ℕ → ℕ → Ahead
-ahead e n = record { refusal = e; value = n }
-
-abbrev pub peeked : ℕ → ℕ → Peeked
-peeked e v = record { refusal = e; value = v }
+-- of a move: the cursor that goes on
+pub record Moved : Type 0 where
+  pub refusal : ℕ
+  pub cursor : Cursor
 
 abbrev pub moved : ℕ → Cursor → Moved
 moved e c = record { refusal = e; cursor = c }
+
+-- the outcome of a read of the cursor c: where it is refused, the value is `none` and the cursor the one that came
+abbrev pub read_told : {A : Type 0} → A → Cursor → Result (Read A) Refusal → ReadTold A
+read_told none c (Ok r) = record { refusal = done; value = r.value; cursor = r.cursor }
+read_told none c (Err e) = record { refusal = number e; value = none; cursor = c }
+
+-- the outcome of a move of the cursor c
+abbrev pub moved_told : Cursor → Result Cursor Refusal → Moved
+moved_told c (Ok d) = moved done d
+moved_told c (Err e) = moved (number e) c
+
+-- no bits before a remainder
+abbrev pub no_partial : Partial
+no_partial = record { partial_bits = 0; partial_byte = 0 }
+
+-- all zeros, which stand where no cursor came
+abbrev pub no_cursor : Cursor
+no_cursor = record { offset = 0; lookahead = 0; register = 0; end = 0 }
 
 -- ---- making one
 
@@ -65,52 +70,37 @@ read_refusal o s c w =
     ∷ [])
 
 -- the field of w bits at the place, and the cursor behind it
-unfoldable pub read_of : Order → List ℕ → Cursor → ℕ → ReadU64
+unfoldable pub read_of : Order → List ℕ → Cursor → ℕ → ReadTold ℕ
 read_of o s c w =
     if_done (read_refusal o s c w)
     (record { refusal = done; value = field o s (place c) w; cursor = cursor_at o s c (after_read (length s) w (counts_in c)) })
     (record { refusal = read_refusal o s c w; value = 0; cursor = c })
 
--- the same answer with its value as a bool, at a narrower type, as a signed number of w bits, or as a float
-abbrev pub as_bool : ReadU64 → ReadBool
-as_bool r = record { refusal = r.refusal; value = eqb r.value 1; cursor = r.cursor }
+-- the same answer with its value by f: as a bool, at a narrower type, as a signed number of w bits, or as a float
+abbrev pub read_as : {A : Type 0} → (ℕ → A) → ReadTold ℕ → ReadTold A
+read_as f r = record { refusal = r.refusal; value = f r.value; cursor = r.cursor }
 
-abbrev pub as_u8 : ReadU64 → ReadU8
-as_u8 r = record { refusal = r.refusal; value = r.value; cursor = r.cursor }
+abbrev pub as_bool : ReadTold ℕ → ReadTold Bool
+as_bool = read_as (λ v. eqb v 1)
 
-abbrev pub as_i8 : ReadU64 → ReadI8
-as_i8 r = record { refusal = r.refusal; value = signed 8 r.value; cursor = r.cursor }
+abbrev pub as_f32 : ReadTold ℕ → ReadTold Single
+as_f32 = read_as single_of
 
-abbrev pub as_u16 : ReadU64 → ReadU16
-as_u16 r = record { refusal = r.refusal; value = r.value; cursor = r.cursor }
+abbrev pub as_signed : ℕ → ReadTold ℕ → ReadTold ℤ
+as_signed w = read_as (signed w)
 
-abbrev pub as_i16 : ReadU64 → ReadI16
-as_i16 r = record { refusal = r.refusal; value = signed 16 r.value; cursor = r.cursor }
-
-abbrev pub as_u32 : ReadU64 → ReadU32
-as_u32 r = record { refusal = r.refusal; value = r.value; cursor = r.cursor }
-
-abbrev pub as_i32 : ReadU64 → ReadI32
-as_i32 r = record { refusal = r.refusal; value = signed 32 r.value; cursor = r.cursor }
-
-abbrev pub as_f32 : ReadU64 → ReadF32
-as_f32 r = record { refusal = r.refusal; value = single_of r.value; cursor = r.cursor }
-
-abbrev pub as_signed : ℕ → ReadU64 → ReadI64
-as_signed w r = record { refusal = r.refusal; value = signed w r.value; cursor = r.cursor }
-
-abbrev pub as_f64 : ReadU64 → ReadF64
-as_f64 r = record { refusal = r.refusal; value = double_of r.value; cursor = r.cursor }
+abbrev pub as_f64 : ReadTold ℕ → ReadTold Double
+as_f64 = read_as double_of
 
 -- ---- counts
 
 -- a number that is told of a cursor that belongs
-unfoldable pub counted_of : Order → List ℕ → Cursor → ℕ → Counted
-counted_of o s c n = counted (cursor_refusal o s c) (if_done (cursor_refusal o s c) n 0)
+unfoldable pub counted_of : Order → List ℕ → Cursor → ℕ → Told ℕ
+counted_of o s c n = told_by (cursor_refusal o s c) (if_done (cursor_refusal o s c) n 0)
 
 -- a test that is made of a cursor that belongs
-unfoldable pub tested_of : Order → List ℕ → Cursor → Bool → Tested
-tested_of o s c b = tested (cursor_refusal o s c) (if_done (cursor_refusal o s c) b false)
+unfoldable pub tested_of : Order → List ℕ → Cursor → Bool → Told Bool
+tested_of o s c b = told_by (cursor_refusal o s c) (if_done (cursor_refusal o s c) b false)
 
 -- ---- bytes
 
@@ -136,8 +126,8 @@ bytes_out o s c out = if_done (bytes_refusal o s c (length out)) (octets o s (pl
 unfoldable pub manual_refusal : Order → List ℕ → Cursor → ℕ → ℕ
 manual_refusal o s c n = first_refusal (cursor_refusal o s c ∷ ltb (ahead_in s c) n ⟶ past_lookahead ∷ [])
 
-unfoldable pub peek_of : Order → List ℕ → Cursor → ℕ → Peeked
-peek_of o s c n = peeked (manual_refusal o s c n) (if_done (manual_refusal o s c n) (field o s (place c) n) 0)
+unfoldable pub peek_of : Order → List ℕ → Cursor → ℕ → Told ℕ
+peek_of o s c n = told_by (manual_refusal o s c n) (if_done (manual_refusal o s c n) (field o s (place c) n) 0)
 
 unfoldable pub consume_of : Order → List ℕ → Cursor → ℕ → Moved
 consume_of o s c n = moved (manual_refusal o s c n) (if_done (manual_refusal o s c n) (cursor_at o s c (after_take n (counts_in c))) c)
@@ -145,8 +135,8 @@ consume_of o s c n = moved (manual_refusal o s c n) (if_done (manual_refusal o s
 unfoldable pub refill_of : Order → List ℕ → Cursor → Moved
 refill_of o s c = moved (cursor_refusal o s c) (if_done (cursor_refusal o s c) (cursor_at o s c (after_refill (length s) (counts_in c))) c)
 
-unfoldable pub ahead_of : Order → List ℕ → Cursor → Ahead
-ahead_of o s c = ahead (cursor_refusal o s c) (if_done (cursor_refusal o s c) (ahead_in s c) 0)
+unfoldable pub ahead_of : Order → List ℕ → Cursor → Told ℕ
+ahead_of o s c = told_by (cursor_refusal o s c) (if_done (cursor_refusal o s c) (ahead_in s c) 0)
 
 -- ---- remainder
 
@@ -163,11 +153,10 @@ unfoldable pub remainder_of : Order → List ℕ → Cursor → List ℕ
 remainder_of o s c = if_done (remainder_refusal o s c) (slice (start_of o s c) (c.end / 8) s) []
 
 -- the bits before that byte: how many, and their value
-unfoldable pub partial_of : Order → List ℕ → Cursor → Partial
+unfoldable pub partial_of : Order → List ℕ → Cursor → Told Partial
 partial_of o s c =
-    if_done (remainder_refusal o s c)
-    (record { refusal = done; partial_bits = c.lookahead % 8; partial_byte = field o s (place c) (c.lookahead % 8) })
-    (record { refusal = remainder_refusal o s c; partial_bits = 0; partial_byte = 0 })
+    told_by (remainder_refusal o s c)
+    (if_done (remainder_refusal o s c) (record { partial_bits = c.lookahead % 8; partial_byte = field o s (place c) (c.lookahead % 8) }) no_partial)
 
 -- ---- the end
 

@@ -1,15 +1,17 @@
 // A cursor taken apart and put together, and the refusals and reads behind its methods.
 ghost use Rattle.std.specs.Prelude.{◌≡◌, ◌*◌, ◌≤◌, length};
-ghost use Rattle.bits.specs.Refusals.{longest, done};
+ghost use Rattle.bits.specs.Refusals.{longest, number_of};
 ghost use Rattle.counts.specs.Counts as C;
 ghost use Rattle.octets.specs.Octets.{octets};
 ghost use Rattle.reader.specs.Cursor.{state_in, with_state, counts_in, place, cursor_at, gone_to, ending_at, bits_left, bytes_left, unfetched as unfetched_of, ahead_in, stop as stop_of, cursor_refusal, inside_end, is_inside, Fits};
-ghost use Rattle.reader.specs.Answers.{read_refusal, read_of, bytes_refusal, manual_refusal, remainder_refusal, lower_refusal};
+ghost use Rattle.reader.specs.Answers.{read_told, read_refusal, read_of, bytes_refusal, manual_refusal, remainder_refusal, lower_refusal};
 
-use crate::{Cursor, ReadU64};
-use bits::{Order, refusals};
+use crate::{Cursor, Read};
+use bits::{LONGEST, Order, Refusal};
 use counts::Counts;
 use lookahead::{State, Taken};
+
+pub mod field;
 
 // The state of a cursor.
 pub fn state_in(c: Cursor) -> State
@@ -56,21 +58,18 @@ pub fn counts_in(c: Cursor) -> Counts
     }
 }
 
-// The refusal number of a cursor: 1, 2 or none.
-pub fn refusal(order: Order, src: &[u8], c: Cursor) -> u32
-    ensures { result ≡ cursor_refusal order src.now c }
+// Tests a cursor: 1 and 2.
+pub fn check(order: Order, src: &[u8], c: Cursor) -> Result<(), Refusal>
+    ensures { number_of result ≡ cursor_refusal order src.now c }
 {
-    let own = lookahead::inner::refusal(order, src, state_in(c));
-    if own != refusals::DONE {
-        return own;
-    }
+    lookahead::inner::check(order, src, state_in(c))?;
     if c.end < 8 * c.offset - c.lookahead as usize {
-        return refusals::FOREIGN;
+        return Err(Refusal::Foreign);
     }
     if 8 * src.len() < c.end {
-        return refusals::FOREIGN;
+        return Err(Refusal::Foreign);
     }
-    refusals::DONE
+    Ok(())
 }
 
 // The place at which reading goes on, of a cursor that belongs.
@@ -125,25 +124,23 @@ pub fn ahead(src: &[u8], c: Cursor) -> u32
     c.lookahead
 }
 
-// The refusal number of a read of `bits` bits.
-pub fn read_refusal(order: Order, src: &[u8], c: Cursor, bits: u32) -> u32
-    ensures { result ≡ read_refusal order src.now c bits }
+// Tests a read of `bits` bits: 1 and 2, then 3 and 9.
+pub fn check_read(order: Order, src: &[u8], c: Cursor, bits: u32) -> Result<(), Refusal>
+    ensures { number_of result ≡ read_refusal order src.now c bits }
 {
-    let own = refusal(order, src, c);
-    if own != refusals::DONE {
-        return own;
-    }
+    check(order, src, c)?;
     if 64 < bits {
-        return refusals::TOO_WIDE;
+        return Err(Refusal::TooWide);
     }
     if bits_left(src, c) < bits as usize {
-        return refusals::TOO_FEW;
+        return Err(Refusal::TooFew);
     }
-    refusals::DONE
+    Ok(())
 }
 
 // A read from any cursor, taken apart; a wide one is a read of 56 bits, a refill, and a read of the rest. (It calls itself, so that the
-// compiler leaves it out of line, and what is left of a public read is small.)
+// compiler leaves it out of line, and what is left of a public read is small. The cursor's numbers are handed over one by one for speed: a
+// struct goes through memory in a call that stays, and the caller's own with it; docs/DECISIONS.md, 31.)
 fn read_any(
     order: Order,
     src: &[u8],
@@ -152,8 +149,8 @@ fn read_any(
     register: u64,
     end: usize,
     bits: u32,
-) -> ReadU64
-    ensures { result ≡ read_of order src.now (record { offset = offset; lookahead = lookahead; register = register; end = end }) bits }
+) -> Result<Read<u64>, Refusal>
+    ensures { read_told 0 (record { offset = offset; lookahead = lookahead; register = register; end = end }) result ≡ read_of order src.now (record { offset = offset; lookahead = lookahead; register = register; end = end }) bits }
 {
     let c = Cursor {
         offset: offset,
@@ -161,21 +158,14 @@ fn read_any(
         register: register,
         end: end,
     };
-    let refusal = read_refusal(order, src, c, bits);
-    if refusal != refusals::DONE {
-        return ReadU64 {
-            refusal: refusal,
-            value: 0,
-            cursor: c,
-        };
-    }
+    check_read(order, src, c, bits)?;
     if bits <= 56 {
-        return done_with(
+        return Ok(done_with(
             c,
             lookahead::inner::read_short(order, src, state_in(c), bits),
-        );
+        ));
     }
-    let low = read_any(order, src, offset, lookahead, register, end, 56);
+    let low = read_any(order, src, offset, lookahead, register, end, 56)?;
     let middle = low.cursor;
     let full = lookahead::inner::refill(order, src, state_in(middle));
     let high = read_any(
@@ -186,38 +176,32 @@ fn read_any(
         full.register,
         end,
         bits - 56,
-    );
-    let last = high.cursor;
-    ReadU64 {
-        refusal: refusals::DONE,
+    )?;
+    Ok(Read {
         value: bits::inner::join_bits(order, 56, bits - 56, low.value, high.value),
-        cursor: last,
-    }
+        cursor: high.cursor,
+    })
 }
 
-// The answer of a read from a cursor that was done.
-fn done_with(c: Cursor, taken: Taken) -> ReadU64
-    ensures { result ≡ record { refusal = done; value = taken.value; cursor = with_state c taken.state } }
+// What was read from a cursor, and the cursor that goes on.
+fn done_with(c: Cursor, taken: Taken) -> Read<u64>
+    ensures { result ≡ record { value = taken.value; cursor = with_state c taken.state } }
 {
-    let next = taken.state;
-    ReadU64 {
-        refusal: refusals::DONE,
+    Read {
         value: taken.value,
-        cursor: with_state(c, next),
+        cursor: with_state(c, taken.state),
     }
 }
 
 // A read from any cursor, its answer made anew, so that the compiler keeps the caller's in registers; the end is the one that came.
-fn read_out(order: Order, src: &[u8], c: Cursor, bits: u32) -> ReadU64
-    ensures { result ≡ read_of order src.now c bits }
+fn read_out(order: Order, src: &[u8], c: Cursor, bits: u32) -> Result<Read<u64>, Refusal>
+    ensures { read_told 0 c result ≡ read_of order src.now c bits }
 {
-    let read = read_any(order, src, c.offset, c.lookahead, c.register, c.end, bits);
-    let next = read.cursor;
-    ReadU64 {
-        refusal: read.refusal,
+    let read = read_any(order, src, c.offset, c.lookahead, c.register, c.end, bits)?;
+    Ok(Read {
         value: read.value,
-        cursor: with_state(c, state_in(next)),
-    }
+        cursor: with_state(c, state_in(read.cursor)),
+    })
 }
 
 // Whether counts have eight bytes before the offset, and eight more before an end within the slice. (In this order: what a loop does not
@@ -225,120 +209,81 @@ fn read_out(order: Order, src: &[u8], c: Cursor, bits: u32) -> ReadU64
 fn inside_end(len: usize, end: usize, k: Counts) -> bool
     ensures { result ≡ inside_end len end k }
 {
-    if refusals::LONGEST < len {
-        return false;
-    }
-    if 8 * len < end {
-        return false;
-    }
-    lookahead::inner::inside(end / 8, k)
+    len <= LONGEST && end <= 8 * len && lookahead::inner::inside(end / 8, k)
 }
 
 // Whether a read is of at most 56 bits from a cursor that belongs, with eight bytes before its offset and eight more before its end.
 fn is_inside(order: Order, src: &[u8], c: Cursor, bits: u32) -> bool
     ensures { result ≡ is_inside order src.now c bits }
 {
-    if bits <= 56 {
-        let k = counts_in(c);
-        if inside_end(src.len(), c.end, k) {
-            return c.register == lookahead::inner::register_behind(order, src, k);
-        }
-        return false;
-    }
-    false
+    let k = counts_in(c);
+    bits <= 56
+        && inside_end(src.len(), c.end, k)
+        && c.register == lookahead::inner::register_behind(order, src, k)
 }
 
-// A read from a cursor taken apart, the order given twice: so the compiler keeps a call for each order, inlines both where the public read
-// is inlined, and drops the one that is not taken.
-pub fn read_parts(
-    order: Order,
-    again: Order,
-    src: &[u8],
-    offset: usize,
-    lookahead: u32,
-    register: u64,
-    end: usize,
-    bits: u32,
-) -> ReadU64
-    requires { again ≡ order }
-    ensures { result ≡ read_of order src.now (record { offset = offset; lookahead = lookahead; register = register; end = end }) bits }
+// A read from any cursor: at once where it is inside the slice, and else behind a call.
+#[inline]
+pub fn read_bits(order: Order, src: &[u8], c: Cursor, bits: u32) -> Result<Read<u64>, Refusal>
+    ensures { read_told 0 c result ≡ read_of order src.now c bits }
 {
-    let lent = &src[..src.len()];
-    let c = Cursor {
-        offset: offset,
-        lookahead: lookahead,
-        register: register,
-        end: end,
-    };
-    if is_inside(order, lent, c, bits) {
-        return done_with(
+    if is_inside(order, src, c, bits) {
+        return Ok(done_with(
             c,
-            lookahead::inner::read_inside(again, lent, state_in(c), bits),
-        );
+            lookahead::inner::read_inside(order, src, state_in(c), bits),
+        ));
     }
-    read_out(order, lent, c, bits)
+    read_out(order, src, c, bits)
 }
 
-// The refusal number of a peek or consume of `count` bits.
-pub fn manual_refusal(order: Order, src: &[u8], c: Cursor, count: u32) -> u32
-    ensures { result ≡ manual_refusal order src.now c count }
+// Tests a peek or consume of `count` bits: 1 and 2, then 10.
+pub fn check_manual(order: Order, src: &[u8], c: Cursor, count: u32) -> Result<(), Refusal>
+    ensures { number_of result ≡ manual_refusal order src.now c count }
 {
-    let own = refusal(order, src, c);
-    if own != refusals::DONE {
-        return own;
-    }
+    check(order, src, c)?;
     if ahead(src, c) < count {
-        return refusals::PAST_LOOKAHEAD;
+        return Err(Refusal::PastLookahead);
     }
-    refusals::DONE
+    Ok(())
 }
 
-// The refusal number of a remainder: 1, 2, then 14 where the end is within a byte.
-pub fn remainder_refusal(order: Order, src: &[u8], c: Cursor) -> u32
-    ensures { result ≡ remainder_refusal order src.now c }
+// Tests a remainder: 1 and 2, then 14 where the end is within a byte.
+pub fn check_remainder(order: Order, src: &[u8], c: Cursor) -> Result<(), Refusal>
+    ensures { number_of result ≡ remainder_refusal order src.now c }
 {
-    let own = refusal(order, src, c);
-    if own != refusals::DONE {
-        return own;
-    }
+    check(order, src, c)?;
     if c.end % 8 != 0 {
-        return refusals::END_IN_BYTE;
+        return Err(Refusal::EndInByte);
     }
-    refusals::DONE
+    Ok(())
 }
 
-// The refusal number of another end: 1, 2, then 13 where it is above the cursor's own or below its place.
-pub fn lower_refusal(order: Order, src: &[u8], c: Cursor, end: usize) -> u32
-    ensures { result ≡ lower_refusal order src.now c end }
+// Tests another end: 1 and 2, then 13 where it is above the cursor's own or below its place.
+pub fn check_lower(order: Order, src: &[u8], c: Cursor, end: usize) -> Result<(), Refusal>
+    ensures { number_of result ≡ lower_refusal order src.now c end }
 {
-    let own = refusal(order, src, c);
-    if own != refusals::DONE {
-        return own;
-    }
+    check(order, src, c)?;
     if c.end < end {
-        return refusals::BAD_END;
+        return Err(Refusal::BadEnd);
     }
     if end < place_of(src, c) {
-        return refusals::BAD_END;
+        return Err(Refusal::BadEnd);
     }
-    refusals::DONE
+    Ok(())
 }
 
-// The refusal number of a read of n bytes.
-pub fn bytes_refusal(order: Order, src: &[u8], c: Cursor, n: usize) -> u32
-    ensures { result ≡ bytes_refusal order src.now c n }
+// Tests a read of n bytes: 1 also for the buffer, 2, then 9.
+pub fn check_bytes(order: Order, src: &[u8], c: Cursor, n: usize) -> Result<(), Refusal>
+    ensures { number_of result ≡ bytes_refusal order src.now c n }
 {
-    if refusals::LONGEST < n {
-        return refusals::TOO_LONG;
+    if LONGEST < n {
+        return Err(Refusal::TooLong);
     }
-    let own = refusal(order, src, c);
-    if own != refusals::DONE {
-        return own;
-    }
+    check(order, src, c)?;
     if bytes_left(src, c) < n {
-        return refusals::TOO_FEW;
+        return Err(Refusal::TooFew);
     }
-    refusals::DONE
+    Ok(())
 }
 
 // Fills the buffer from the place on, where the bytes are there; the bytes go by place, and the cursor is made of the counts after them.

@@ -5,7 +5,8 @@ use Rattle.bits.specs.Signed.{signed}
 use Rattle.bits.proofs.TestLaws.{both, by_test}
 use Rattle.sign.proofs.SignedLaws.{by_half}
 use Rattle.record.specs.declared.Record.{Record}
-use Rattle.record.specs.Record.{magnitude_bits, depth, fits, Fits}
+use Rattle.record.specs.declared.inner.Numbers.{Numbers}
+use Rattle.record.specs.Record.{magnitude_bits, depth, fits, Fits, named, InFields}
 
 -- two tests that hold together are equal
 same_test : {a b c d : ℕ} → (a < b → c < d) → (c < d → a < b) → ltb a b ≡ ltb c d
@@ -35,6 +36,10 @@ module _ (r : Record) where
   unfolding fits
   true-fits h =
       simp (lt-ltb _ _ h.star, lt-ltb _ _ h.date, lt-ltb _ _ h.limit, lt-ltb _ _ h.magnitude, lt-ltb _ _ h.error, lt-ltb _ _ h.filter)
+
+-- the bounds of numbers that fit
+pub in_fields : (six : Numbers) → fits (named six) ≡ true → InFields six
+in_fields six e = let f = fits-true (named six) e in (f.star, f.date, f.limit, f.magnitude, f.error, f.filter)
 
 -- which numbers of 64 bits fit 16 as signed ones: the lowest and the highest, which the code brings together
 pub sixteen_fit : (m : ℕ) → m < 2 ^ 64 → ltb ((m + depth) % 2 ^ 64) (2 ^ magnitude_bits) ≡ ltb (mag (signed 64 m)) depth

@@ -3,6 +3,7 @@ use Rattle.std.specs.Prelude.{ℕ, ◌^◌, ◌<◌, Bool, ◌&&◌, pos, nat_lt
 use Rattle.std.specs.Int.Signed.{mag}
 use Rattle.bits.specs.Signed.{signed}
 use Rattle.record.specs.declared.Record.{Record}
+use Rattle.record.specs.declared.inner.Numbers.{Numbers}
 
 -- the widths of star, date, limit, magnitude, error and filter, and of a whole record
 abbrev pub star_bits : ℕ
@@ -50,6 +51,16 @@ pub record Fits (r : Record) : Type 0 where
 -- the record that six numbers name, the magnitude's in two's complement of 64 bits
 abbrev pub record_of : ℕ → ℕ → ℕ → ℕ → ℕ → ℕ → Record
 record_of a b c d e f = record { star = a; date = b; limit = c; magnitude = signed 64 d; error = e; filter = f }
+
+-- the record that numbers name
+abbrev pub named : Numbers → Record
+named six = record_of six.star six.date six.limit six.magnitude six.error six.filter
+
+-- numbers that fit, each with its bound
+abbrev pub InFields : Numbers → Type 0
+InFields six =
+    (six.star < 2 ^ star_bits) × (six.date < 2 ^ date_bits) × (six.limit < 2 ^ limit_bits) × (mag (signed 64 six.magnitude) < depth)
+    × (six.error < 2 ^ error_bits) × (six.filter < 2 ^ filter_bits)
 
 -- the record of zeros, which stands where there is none
 abbrev pub no_record : Record

@@ -1,63 +1,76 @@
 // Tests and values of records, for proved callers.
-ghost use Rattle.std.specs.Prelude.{◌≡◌};
+ghost use Rattle.std.specs.Prelude.{◌≡◌, true};
 ghost use Rattle.bits.specs.Signed.{pattern};
-ghost use Rattle.record.specs.Record.{fits as fits_of, record_of, no_record};
+ghost use Rattle.record.specs.Record.{fits as fits_of, named};
 
 use crate::Record;
 
-// Whether six numbers fit their fields, the magnitude's in two's complement of 64 bits.
-pub fn six_fit(star: u64, date: u64, limit: u64, magnitude: u64, error: u64, filter: u64) -> bool
-    ensures { result ≡ fits_of (record_of star date limit magnitude error filter) }
-{
-    if star < 0x10_0000 {
-        if date < 0x40_0000_0000 {
-            if limit < 2 {
-                if error < 0x400 {
-                    if filter < 16 {
-                        return std::num::wrapping_add_u64(magnitude, 0x8000) < 0x1_0000;
-                    }
-                    return false;
-                }
-                return false;
-            }
-            return false;
-        }
-        return false;
+// A record's six numbers as lists hold them, the magnitude's in two's complement of 64 bits.
+#[derive(Clone, Copy, Debug, PartialEq, Eq)]
+pub struct Numbers {
+    pub star: u64,
+    pub date: u64,
+    pub limit: u64,
+    pub magnitude: u64,
+    pub error: u64,
+    pub filter: u64,
+}
+
+impl Numbers {
+    // Whether the six numbers fit their fields.
+    pub fn fit(self) -> bool
+        ensures { result ≡ fits_of (named self) }
+    {
+        self.star < 0x10_0000
+            && self.date < 0x40_0000_0000
+            && self.limit < 2
+            && self.error < 0x400
+            && self.filter < 16
+            && self.magnitude.wrapping_add(0x8000) < 0x1_0000
     }
-    false
+
+    // The record of six numbers that fit.
+    pub fn to_record(self) -> Record
+        requires { fits_of (named self) ≡ true }
+        ensures { result ≡ named self }
+    {
+        Record {
+            star: self.star as u32,
+            date: self.date,
+            limit: self.limit as u8,
+            magnitude: sign::inner::signed_of_bits(self.magnitude) as i16,
+            error: self.error as u16,
+            filter: self.filter as u8,
+        }
+    }
+}
+
+// The six numbers of a record.
+impl From<Record> for Numbers {
+    ghost from_gives = { λ r six. named six ≡ r };
+
+    fn from(r: Record) -> Numbers {
+        Numbers {
+            star: u64::from(r.star),
+            date: r.date,
+            limit: u64::from(r.limit),
+            magnitude: magnitude_number(r.magnitude),
+            error: u64::from(r.error),
+            filter: u64::from(r.filter),
+        }
+    }
 }
 
 // The 64 bits of a magnitude in two's complement.
 pub fn magnitude_number(magnitude: i16) -> u64
     ensures { result ≡ pattern 64 magnitude }
 {
-    sign::inner::bits_of_signed(magnitude as i64)
+    sign::inner::bits_of_signed(i64::from(magnitude))
 }
 
 // Whether a record's numbers fit their fields.
 pub fn fits(r: Record) -> bool
     ensures { result ≡ fits_of r }
 {
-    six_fit(
-        r.star as u64,
-        r.date,
-        r.limit as u64,
-        magnitude_number(r.magnitude),
-        r.error as u64,
-        r.filter as u64,
-    )
-}
-
-// The record of zeros, which stands where there is none.
-pub fn no_record() -> Record
-    ensures { result ≡ no_record }
-{
-    Record {
-        star: 0,
-        date: 0,
-        limit: 0,
-        magnitude: 0,
-        error: 0,
-        filter: 0,
-    }
+    Numbers::from(r).fit()
 }

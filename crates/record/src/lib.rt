@@ -7,8 +7,8 @@ pub mod inner;
 pub const RECORD_BITS: usize = 89;
 
 // A star's number, a Julian Date in 10^-5 day, whether the magnitude is a limit, the magnitude and its error in thousandths, and a
-// filter's number.
-#[derive(Clone, Copy)]
+// filter's number. The default has zeros alone.
+#[derive(Clone, Copy, Debug, Default, PartialEq, Eq)]
 pub struct Record {
     pub star: u32,
     pub date: u64,

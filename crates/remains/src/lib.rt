@@ -5,11 +5,11 @@ ghost use Rattle.std.specs.Prelude.{◌≡◌, ◌+◌};
 ghost use Rattle.reader.specs.Answers.{start_of, remainder_of, partial_of};
 
 use bits::Order;
-use reader::Cursor;
+use reader::{Cursor, Partial};
 
-// The bits before the first whole unread byte, as a number and how many, and the slice from that byte on up to the end. It has no refusal
-// number: `partial` tells it, and all is 0 or empty where there is one.
-#[derive(Clone, Copy)]
+// The bits before the first whole unread byte, as a number and how many, and the slice from that byte on up to the end. It tells no
+// refusal: `partial` does, and all is 0 or empty where there is one.
+#[derive(Clone, Copy, Debug, PartialEq, Eq)]
 pub struct Remainder<'a> {
     partial_byte: u8,
     partial_bits: u8,
@@ -20,18 +20,20 @@ pub struct Remainder<'a> {
 //     let rest = lent::left(behind, Order::Big, b"\x5a\xff");
 //     expect(b"remainder_record", rest.partial_bits == 5);
 pub fn remainder_record<'a>(cursor: Cursor, order: Order, src: &'a [u8]) -> Remainder<'a>
-    ensures { (result.partial_byte ≡ (partial_of order src.now cursor).partial_byte)
-        × (result.partial_bits ≡ (partial_of order src.now cursor).partial_bits)
+    ensures { (result.partial_byte ≡ (partial_of order src.now cursor).value.partial_byte)
+        × (result.partial_bits ≡ (partial_of order src.now cursor).value.partial_bits)
         × (result.remaining_bytes.now ≡ remainder_of order src.now cursor)
         × (result.remaining_bytes.ref_ptr.0 ≡ src.entry.ref_ptr.0)
         × (result.remaining_bytes.ref_ptr.1 ≡ src.entry.ref_ptr.1 + start_of order src.now cursor) }
 {
-    let partial = cursor.partial(order, src);
-    let rest = cursor.remainder(order, src);
+    let partial = cursor.partial(order, src).unwrap_or(Partial {
+        partial_bits: 0,
+        partial_byte: 0,
+    });
     Remainder {
         partial_byte: partial.partial_byte,
         partial_bits: partial.partial_bits,
-        remaining_bytes: rest,
+        remaining_bytes: cursor.remainder(order, src),
     }
 }
 

@@ -10,7 +10,7 @@ use Rattle.reader.specs.declared.Cursor.{Cursor}
 use Rattle.reader.specs.Cursor.{place, bits_left}
 use Rattle.reader.specs.Answers as R
 use Rattle.writer.specs.declared.Writer.{Writer}
-use Rattle.writer.specs.declared.Wrote.{Wrote}
+use Rattle.writer.specs.Answers.{Wrote}
 use Rattle.writer.specs.Answers as W
 
 -- a thing to write; with bytes goes the buffer that they are read back into, whatever it holds

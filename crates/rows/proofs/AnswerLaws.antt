@@ -2,28 +2,31 @@
 use mathlib.Core.Path.{◌≡◌, refl, sym, ap, ap₂, ◌∙◌}
 use mathlib.Core.Bool.{Bool, true, false, cond}
 use mathlib.Core.List.{List, []}
-use Prim.Native.Nat.{ℕ, ◌*◌, ◌/◌, ◌%◌, ◌<◌, ◌≤◌}
+use Rattle.std.specs.Prelude.{Option, Some, None, Result, Err}
+use Rattle.std.specs.Result.{IsErrAnd}
+use Rattle.std.proofs.lemmas.Result.{err_from_is_err_and}
+use Prim.Native.Nat.{ℕ, suc, ◌*◌, ◌/◌, ◌%◌, ◌<◌, ◌≤◌}
 use native.Mathlib.Omega.{arith}
 use lib.Dec.{eqb}
 use lib.ListN.{length, take}
 use lib.Seq.{sets}
-use borrow.Author.Tests.{eqb-true, lt-ltb, le-ltb, eq-eqb, ne_eqb}
-use Rattle.bits.specs.Refusals.{longest, done, too_long, no_room, bad_row, or_else, first_refusal, if_done}
+use borrow.Author.Tests.{eqb-true, eqb-false, lt-ltb, le-ltb, eq-eqb, ne_eqb}
+use Rattle.bits.specs.declared.Refusal.{Refusal}
+use Rattle.bits.specs.Refusals.{number, longest, done, too_long, no_room, bad_row, or_else, first_refusal, if_done, Told}
+use Rattle.bits.proofs.TestLaws.{by_test}
 use Rattle.bits.proofs.StoreLaws.{front_take}
-use Rattle.bits.proofs.RefusalLaws.{passed, test_held, at_most, if_refused, if_done_lem, number_of}
+use Rattle.bits.proofs.RefusalLaws.{number_ne, passed, test_held, at_most, if_refused, if_done_lem, number_of}
 use Rattle.record.specs.declared.Record.{Record}
 use Rattle.record.specs.Record.{Fits, fits}
 use Rattle.record.proofs.FitLaws.{true-fits}
 use Rattle.strip.specs.Strip.{count_of, strip_length, tail_good, records_of, strip_bytes}
 use Rattle.strip.proofs.PackedLaws.{records_count}
 use Rattle.strip.proofs.StripLaws.{length_strip}
-use Rattle.rows.specs.declared.inner.Found.{Found}
-use Rattle.rows.specs.declared.RowRead.{RowRead}
-use Rattle.rows.specs.declared.Rows.{Rows}
-use Rattle.rows.specs.declared.Packed.{Packed}
 use Rattle.rows.specs.Row.{columns_at, in_range, row_length}
-use Rattle.rows.specs.Rows.{rows_bytes, strip_rows, row_count, rows_whole, records_of_rows, first_bad, rows_strip}
-use Rattle.rows.specs.Answers.{row_refusal, read_refusal, read_of, rows_refusal, rows_of, rows_out, pack_refusal, packed_of, packed_out}
+use Rattle.rows.specs.Rows.{rows_bytes, strip_rows, row_count, rows_whole, records_of_rows, first_bad, named, rows_strip}
+use Rattle.rows.specs.declared.PackError.{PackError}
+use Rattle.rows.specs.declared.PackError.TheVariants as why
+use Rattle.rows.specs.Answers.{Found, Rows, Packed, error_number, error_row, rows_told, packed_told, found_of, row_refusal, read_refusal, read_of, rows_refusal, rows_of, rows_out, pack_refusal, packed_of, packed_out}
 use Rattle.rows.proofs.RowsLaws.{rows_length, rows_count}
 
 -- ---- what a call that is done has tested
@@ -43,7 +46,7 @@ read_passed s z = let (short, (there, good)) = passed _ z in (at_most _ _ _ shor
 -- an answer's number is the refusal's
 pub refusal_is : (s : List ℕ) → read_refusal s ≡ (read_of s).refusal
 unfolding read_of
-refusal_is s = sym (number_of (λ (a : RowRead). a.refusal) (read_refusal s) _ _ refl refl)
+refusal_is s = sym (number_of (λ (a : Told Record). a.refusal) (read_refusal s) _ _ refl refl)
 
 module _ (s : List ℕ) (short : length s ≤ longest) (there : row_length ≤ length s) where
   pub read_good : in_range (columns_at s 0) ≡ true → (read_of s).refusal ≡ done
@@ -78,23 +81,40 @@ module _ (s : List ℕ) where
   unfolding strip_rows
   no_rows e = rw e
 
--- what writing rows answers and leaves, from the refusal that was found
-module _ (s out : List ℕ) {e : ℕ} (found : e ≡ rows_refusal s (length out)) where
-  pub rows_refused : (e ≡ done → ⊥) → (◌≡◌ {A = Rows} (record { refusal = e; length = 0; tail_good = false }) (rows_of s (length out))) × (out ≡ rows_out s out)
+-- what writing rows answers and leaves, from the test
+module _ (s out : List ℕ) where
+  pub rows_refused : (e : Refusal) → number e ≡ rows_refusal s (length out) → (rows_told (Err e) ≡ rows_of s (length out)) × (out ≡ rows_out s out)
   unfolding rows_of rows_out
-  rows_refused h = (◌∙◌ {A = Rows} (λ i. record { refusal = found i; length = 0; tail_good = false }) (if_refused found _ _ h), if_refused found _ _ h)
+  rows_refused e found =
+      (◌∙◌ {A = Rows} (λ i. record { refusal = found i; length = 0; tail_good = false }) (if_refused found _ _ (number_ne e)), if_refused found _ _ (number_ne e))
 
-  pub rows_done : e ≡ done → {n : ℕ} {b : Bool} {t : List ℕ} → n ≡ length (strip_rows s) → b ≡ tail_good s → t ≡ sets out 0 (strip_rows s)
+  pub rows_done : done ≡ rows_refusal s (length out) → {n : ℕ} {b : Bool} {t : List ℕ} → n ≡ length (strip_rows s) → b ≡ tail_good s → t ≡ sets out 0 (strip_rows s)
       → (◌≡◌ {A = Rows} (record { refusal = done; length = n; tail_good = b }) (rows_of s (length out))) × (t ≡ rows_out s out)
   unfolding rows_of rows_out
-  rows_done z size tail memory =
-      (◌∙◌ {A = Rows} (λ i. record { refusal = done; length = size i; tail_good = tail i }) (if_done_lem found _ _ z), memory ∙ if_done_lem found _ _ z)
+  rows_done found size tail memory =
+      (◌∙◌ {A = Rows} (λ i. record { refusal = done; length = size i; tail_good = tail i }) (if_done_lem found _ _ refl), memory ∙ if_done_lem found _ _ refl)
+
+-- ---- a number from 1, as the code has it
+
+pub some_named : (k : ℕ) → (k ≡ 0 → ⊥) → Some k ≡ named k
+some_named k h = rw (ne_eqb k 0 h) refl
+
+-- how the two are told apart
+abbrev one_up : Option ℕ → ℕ
+one_up None = 0
+one_up (Some k) = suc k
+
+pub named_some : {r k : ℕ} → Some r ≡ named k → (r ≡ k) × (k ≡ 0 → ⊥)
+named_some {r} {k} e =
+    by_test (eqb k 0)
+    (λ t. let z : suc r ≡ 0 = ap one_up (rw t at e) in absurd (omega arith))
+    (λ t. let z : suc r ≡ suc k = ap one_up (rw t at e) in (omega arith, eqb-false k 0 t))
+
+pub named_none : {k : ℕ} → None ≡ named k → k ≡ 0
+named_none {k} e =
+    by_test (eqb k 0) (λ t. eqb-true k 0 t) (λ t. let z : ◌≡◌ {A = ℕ} 0 (suc k) = ap one_up (rw t at e) in absurd (omega arith))
 
 -- ---- packing rows: the refusal, test by test
-
--- the refusal of packing rows, with the number of the first bad row where that is the refusal
-abbrev pub found_of : List ℕ → ℕ → Found
-found_of s len = record { refusal = pack_refusal s len; row = cond (eqb (pack_refusal s len) bad_row) (first_bad s) 0 }
 
 module _ (s : List ℕ) (len : ℕ) where
   pub found_is : {e : ℕ} → e ≡ pack_refusal s len → ◌≡◌ {A = Found} (record { refusal = e; row = cond (eqb e bad_row) (first_bad s) 0 }) (found_of s len)
@@ -148,22 +168,29 @@ module _ (s : List ℕ) where
   unfolding rows_whole
   rows_cut h = ne_eqb _ _ h
 
+-- a `?` hands an error on as it is
+pub handed : {A : Type 0} (r : Result A PackError) (e : PackError) → IsErrAnd r (λ y. y ≡ e) → r ≡ Err e
+handed r e h = let p = err_from_is_err_and r h in p.1 ∙ ap Err p.2
+
+-- no error has the number of what is done
+pub error_ne : (e : PackError) → error_number e ≡ done → ⊥
+error_ne (why.Refused e) z = number_ne e z
+error_ne (why.BadRow k) z = omega arith
+
 -- what packing rows answers and leaves, from what was found
-module _ (s out : List ℕ) {f : Found} (e : f ≡ found_of s (length out)) where
-  refusal_found : f.refusal ≡ pack_refusal s (length out)
-  refusal_found = ap (λ (x : Found). x.refusal) e
-
-  pub pack_refused : (f.refusal ≡ done → ⊥)
-      → (◌≡◌ {A = Packed} (record { refusal = f.refusal; row = f.row; length = 0; tail_good = false }) (packed_of s (length out))) × (out ≡ packed_out s out)
+module _ (s out : List ℕ) where
+  pub pack_refused : (e : PackError) → ◌≡◌ {A = Found} (record { refusal = error_number e; row = error_row e }) (found_of s (length out))
+      → (packed_told (Err e) ≡ packed_of s (length out)) × (out ≡ packed_out s out)
   unfolding packed_of packed_out
-  pack_refused h =
-      (◌∙◌ {A = Packed} (λ i. record { refusal = (e i).refusal; row = (e i).row; length = 0; tail_good = false }) (if_refused refusal_found _ _ h), if_refused refusal_found _ _ h)
+  pack_refused e found =
+      let p : error_number e ≡ pack_refusal s (length out) = ap (λ (x : Found). x.refusal) found in
+      (◌∙◌ {A = Packed} (λ i. record { refusal = (found i).refusal; row = (found i).row; length = 0; tail_good = false }) (if_refused p _ _ (error_ne e)), if_refused p _ _ (error_ne e))
 
-  pub pack_done : f.refusal ≡ done → {n : ℕ} {b : Bool} {t : List ℕ} → n ≡ length (rows_strip s) → b ≡ rows_whole s → t ≡ sets out 0 (rows_strip s)
+  pub pack_done : done ≡ pack_refusal s (length out) → {n : ℕ} {b : Bool} {t : List ℕ} → n ≡ length (rows_strip s) → b ≡ rows_whole s → t ≡ sets out 0 (rows_strip s)
       → (◌≡◌ {A = Packed} (record { refusal = done; row = 0; length = n; tail_good = b }) (packed_of s (length out))) × (t ≡ packed_out s out)
   unfolding packed_of packed_out
-  pack_done z size tail memory =
-      (◌∙◌ {A = Packed} (λ i. record { refusal = done; row = 0; length = size i; tail_good = tail i }) (if_done_lem refusal_found _ _ z), memory ∙ if_done_lem refusal_found _ _ z)
+  pack_done found size tail memory =
+      (◌∙◌ {A = Packed} (λ i. record { refusal = done; row = 0; length = size i; tail_good = tail i }) (if_done_lem found _ _ refl), memory ∙ if_done_lem found _ _ refl)
 
 -- ---- calls that are done, from their inputs
 

@@ -8,7 +8,7 @@ use native.Mathlib.Omega.{arith}
 use lib.ListN.{length, get_or, take, drop, length-append, take-append-drop}
 use lib.Seq.{sets, length-sets, take-length}
 use borrow.Author.Tests.{le-ltb, eq-eqb, eqb-true}
-use Rattle.bits.specs.Refusals.{longest, done, bad_row, or_else, first_refusal}
+use Rattle.bits.specs.Refusals.{longest, done, bad_row, or_else, first_refusal, Told}
 use Rattle.bits.proofs.StoreLaws.{front_take}
 use Rattle.bits.proofs.TestLaws.{by_test}
 use Rattle.record.specs.declared.Record.{Record}
@@ -17,11 +17,9 @@ use Rattle.record.proofs.FitLaws.{fits-true}
 use Rattle.strip.specs.Strip.{all_fit, strip_length, strip_bytes, count_of, records_of, tail_good}
 use Rattle.strip.proofs.PackedLaws.{records_fit, records_count}
 use Rattle.strip.proofs.StripLaws.{strip_count, strip_records, strip_tail, strip_same}
-use Rattle.rows.specs.declared.RowRead.{RowRead}
-use Rattle.rows.specs.declared.Packed.{Packed}
 use Rattle.rows.specs.Row.{columns_at, columns_of, row_bytes, in_range, record_said, row_length, row_bits}
 use Rattle.rows.specs.Rows.{rows_bytes, strip_rows, row_count, rows_whole, records_in_rows, records_of_rows, bad_from, first_bad, rows_strip}
-use Rattle.rows.specs.Answers.{row_refusal, row_out, read_refusal, read_of, rows_of, rows_out, packed_of, packed_out}
+use Rattle.rows.specs.Answers.{Packed, row_refusal, row_out, read_refusal, read_of, rows_of, rows_out, packed_of, packed_out}
 use Rattle.rows.proofs.ColumnLaws.{columns_good, columns_record}
 use Rattle.rows.proofs.RowLaws.{row_length_lem, same_row}
 use Rattle.rows.proofs.RowsLaws.{rows_count, rows_fit, row_fits, bad_is_first, first_is_bad, all_are_good, good_is_all}
@@ -31,14 +29,14 @@ use Rattle.rows.proofs.BackLaws.{columns_behind, rows_say, same_rows}
 -- ---- one record
 
 -- bytes that start with a record's row are read as that record
-said : (s : List ℕ) (r : Record) → Fits r → length s ≤ longest → row_bytes r ≡ take row_length s → read_of s ≡ record { refusal = done; found = r }
+said : (s : List ℕ) (r : Record) → Fits r → length s ≤ longest → row_bytes r ≡ take row_length s → read_of s ≡ record { refusal = done; value = r }
 unfolding read_of read_refusal first_refusal or_else
 said s r fit short e =
     let whole : s ≡ row_bytes r ++ drop row_length s = sym (take-append-drop row_length s) ∙ ap (λ (t : List ℕ). t ++ drop row_length s) (sym e) in
     let columns : columns_at s 0 ≡ columns_of r = ap (λ (t : List ℕ). columns_at t 0) whole ∙ columns_behind [] (drop row_length s) r fit in
     let there : row_length ≤ length s = omega (arith, ap length whole, length-append (row_bytes r) (drop row_length s), row_length_lem r) in
     let good : in_range (columns_at s 0) ≡ true = ap in_range columns ∙ columns_good r fit in
-    rw (le-ltb longest (length s) short, le-ltb (length s) row_length there, good) (λ i. record { refusal = done; found = (ap record_said columns ∙ columns_record r fit) i })
+    rw (le-ltb longest (length s) short, le-ltb (length s) row_length there, good) (λ i. record { refusal = done; value = (ap record_said columns ∙ columns_record r fit) i })
 
 -- the row that write_row leaves
 row_written : (out : List ℕ) (r : Record) → row_refusal (length out) r ≡ done → (row_out out r ≡ sets out 0 (row_bytes r)) × (take row_length (row_out out r) ≡ row_bytes r)
@@ -49,7 +47,7 @@ row_written out r z =
     rw (eq-eqb _ _ z) (refl, ap (λ (k : ℕ). take k (sets out 0 (row_bytes r))) (sym l) ∙ front_take (row_bytes r) out (omega (arith, l, room)))
 
 -- there_and_back: a record written as a row and read is the same record
-pub there_and_back : (out : List ℕ) (r : Record) → row_refusal (length out) r ≡ done → read_of (row_out out r) ≡ record { refusal = done; found = r }
+pub there_and_back : (out : List ℕ) (r : Record) → row_refusal (length out) r ≡ done → read_of (row_out out r) ≡ record { refusal = done; value = r }
 there_and_back out r z =
     let (short, fit, room) = row_passed (length out) r z in
     let (is, row) = row_written out r z in
@@ -64,7 +62,7 @@ row_says out r z =
     ap (λ (t : List ℕ). columns_at t 0) whole ∙ columns_behind [] (drop row_length w) r (fits-true r fit)
 
 -- the row that is read, and what it says
-row_found : (s : List ℕ) → ((i : ℕ) → get_or s i 0 < 2 ^ 8) → (read_of s).refusal ≡ done → Fits (read_of s).found × (row_bytes (read_of s).found ≡ take row_length s)
+row_found : (s : List ℕ) → ((i : ℕ) → get_or s i 0 < 2 ^ 8) → (read_of s).refusal ≡ done → Fits (read_of s).value × (row_bytes (read_of s).value ≡ take row_length s)
 unfolding read_of
 row_found s bytes z =
     let d : read_refusal s ≡ done = refusal_is s ∙ z in
@@ -73,21 +71,21 @@ row_found s bytes z =
 
 -- back-and-there: a row that becomes a record comes back from it as the same 18 bytes
 pub back_and_there : (s out : List ℕ) → ((i : ℕ) → get_or s i 0 < 2 ^ 8) → (read_of s).refusal ≡ done → length out ≤ longest → row_length ≤ length out
-    → (row_refusal (length out) (read_of s).found ≡ done) × (take row_length (row_out out (read_of s).found) ≡ take row_length s)
+    → (row_refusal (length out) (read_of s).value ≡ done) × (take row_length (row_out out (read_of s).value) ≡ take row_length s)
 back_and_there s out bytes z short room =
     let (fit, row) = row_found s bytes z in
-    let d = row_done (length out) (read_of s).found short fit room in
-    (d, (row_written out (read_of s).found d).1 ∙ row)
+    let d = row_done (length out) (read_of s).value short fit room in
+    (d, (row_written out (read_of s).value d).1 ∙ row)
 
 -- refused-exactly: a row is refused with 11 exactly if no record that fits has it
 pub refused_exactly : (s : List ℕ) → ((i : ℕ) → get_or s i 0 < 2 ^ 8) → length s ≤ longest → row_length ≤ length s
     → ((read_of s).refusal ≡ bad_row → (r : Record) → Fits r → row_bytes r ≡ take row_length s → ⊥)
     × (((r : Record) → Fits r → row_bytes r ≡ take row_length s → ⊥) → (read_of s).refusal ≡ bad_row)
 refused_exactly s bytes short there = (
-  λ z r fit e. let d : bad_row ≡ done = sym z ∙ ap (λ (x : RowRead). x.refusal) (said s r fit short e) in omega arith,
+  λ z r fit e. let d : bad_row ≡ done = sym z ∙ ap (λ (x : Told Record). x.refusal) (said s r fit short e) in omega arith,
   λ none.
       by_test (in_range (columns_at s 0))
-      (λ t. let (fit, row) = row_found s bytes (read_good s short there t) in absurd (none (read_of s).found fit row))
+      (λ t. let (fit, row) = row_found s bytes (read_good s short there t) in absurd (none (read_of s).value fit row))
       (λ f. read_bad s short there f),
 )
 

@@ -1,15 +1,61 @@
 -- What the calls on rows answer, and what lent memory holds afterwards, on every input.
-use Rattle.std.specs.Prelude.{ℕ, ◌*◌, false, not, cond, List, [], ◌∷◌, length, eqb, ltb}
+use Rattle.std.specs.Prelude.{ℕ, Option, Some, None, Result, Ok, Err, ◌*◌, Bool, true, false, not, cond, List, [], ◌∷◌, length, eqb, ltb}
 use Rattle.std.proofs.lemmas.List.Edits.{sets}
-use Rattle.bits.specs.Refusals.{longest, done, too_long, too_large, no_room, too_few, bad_row, ◌⟶◌, first_refusal, if_done}
+use Rattle.bits.specs.declared.Refusal.{Refusal}
+use Rattle.bits.specs.Refusals.{number, longest, done, too_long, too_large, no_room, too_few, bad_row, ◌⟶◌, first_refusal, if_done, Told}
 use Rattle.record.specs.declared.Record.{Record}
 use Rattle.record.specs.Record.{fits, no_record}
 use Rattle.strip.specs.Strip.{strip_length, count_of, tail_good}
-use Rattle.rows.specs.declared.RowRead.{RowRead}
-use Rattle.rows.specs.declared.Rows.{Rows}
-use Rattle.rows.specs.declared.Packed.{Packed}
+use Rattle.rows.specs.declared.PackError.{PackError}
+use Rattle.rows.specs.declared.PackError.TheVariants as why
 use Rattle.rows.specs.Row.{columns_at, row_bytes, in_range, record_said, row_length}
 use Rattle.rows.specs.Rows.{strip_rows, row_count, rows_whole, first_bad, rows_strip}
+
+-- ---- what is told: the number of a refusal or done, and what there is with it
+
+-- of a strip's rows: their length, and whether the strip's tail is good
+pub record Rows : Type 0 where
+  pub refusal : ℕ
+  pub length : ℕ
+  pub tail_good : Bool
+
+-- of the strip of rows: with 11 the number of the first bad row from 1, else 0; its length, and whether the last row is whole
+pub record Packed : Type 0 where
+  pub refusal : ℕ
+  pub row : ℕ
+  pub length : ℕ
+  pub tail_good : Bool
+
+-- of the test of rows: with 11 the number of the first bad row from 1, else 0
+pub record Found : Type 0 where
+  pub refusal : ℕ
+  pub row : ℕ
+
+-- the outcome of writing a strip's rows: no length where its tail is bad
+abbrev pub rows_told : Result (Option ℕ) Refusal → Rows
+rows_told (Ok (Some n)) = record { refusal = done; length = n; tail_good = true }
+rows_told (Ok None) = record { refusal = done; length = 0; tail_good = false }
+rows_told (Err e) = record { refusal = number e; length = 0; tail_good = false }
+
+-- the number of a refusal to pack, and the row with it
+abbrev pub error_number : PackError → ℕ
+error_number (why.Refused e) = number e
+error_number (why.BadRow k) = bad_row
+
+abbrev pub error_row : PackError → ℕ
+error_row (why.Refused e) = 0
+error_row (why.BadRow k) = k
+
+-- the outcome of testing rows
+abbrev pub found_told : Result Unit PackError → Found
+found_told (Ok x) = record { refusal = done; row = 0 }
+found_told (Err e) = record { refusal = error_number e; row = error_row e }
+
+-- the outcome of packing rows: no length where the last row is cut
+abbrev pub packed_told : Result (Option ℕ) PackError → Packed
+packed_told (Ok (Some n)) = record { refusal = done; row = 0; length = n; tail_good = true }
+packed_told (Ok None) = record { refusal = done; row = 0; length = 0; tail_good = false }
+packed_told (Err e) = record { refusal = error_number e; row = error_row e; length = 0; tail_good = false }
 
 -- ---- one record
 
@@ -36,11 +82,11 @@ read_refusal s =
     ∷ [])
 
 -- the record that the first row says
-unfoldable pub read_of : List ℕ → RowRead
+unfoldable pub read_of : List ℕ → Told Record
 read_of s =
     if_done (read_refusal s)
-    (record { refusal = done; found = record_said (columns_at s 0) })
-    (record { refusal = read_refusal s; found = no_record })
+    (record { refusal = done; value = record_said (columns_at s 0) })
+    (record { refusal = read_refusal s; value = no_record })
 
 -- ---- whole strips
 
@@ -73,6 +119,10 @@ pack_refusal s len =
     ∷ ltb len (strip_length (row_count s)) ⟶ no_room
     ∷ not (eqb (first_bad s) 0) ⟶ bad_row
     ∷ [])
+
+-- with 11 the number of the first bad row
+abbrev pub found_of : List ℕ → ℕ → Found
+found_of s len = record { refusal = pack_refusal s len; row = cond (eqb (pack_refusal s len) bad_row) (first_bad s) 0 }
 
 -- the length of the strip, and whether the last row is whole; with 11 the number of the first bad row
 unfoldable pub packed_of : List ℕ → ℕ → Packed

@@ -1,5 +1,5 @@
 -- Rows one behind the other: those of a strip's records, and the strip of the records that rows say.
-use Rattle.std.specs.Prelude.{ℕ, zero, suc, ◌+◌, ◌/◌, ◌%◌, Bool, cond, List, [], ◌∷◌, ◌++◌, length, eqb}
+use Rattle.std.specs.Prelude.{ℕ, zero, suc, Option, Some, None, ◌+◌, ◌/◌, ◌%◌, Bool, cond, List, [], ◌∷◌, ◌++◌, length, eqb}
 use Rattle.record.specs.declared.Record.{Record}
 use Rattle.strip.specs.Strip.{strip_bytes, records_of, tail_good}
 use Rattle.rows.specs.Row.{columns_at, row_bytes, in_range, record_said, row_length, row_bits}
@@ -38,6 +38,10 @@ records_of_rows s = records_in_rows s 0 (row_count s)
 unfoldable pub bad_from : List ℕ → ℕ → ℕ → ℕ → ℕ
 bad_from s p k zero = 0
 bad_from s p k (suc n) = cond (in_range (columns_at s p)) (bad_from s (p + row_bits) (suc k) n) k
+
+-- a number from 1 as the code has it: none for 0
+abbrev pub named : ℕ → Option ℕ
+named k = cond (eqb k 0) None (Some k)
 
 -- the number of the first row that says no record, from 1; 0 where each says one
 abbrev pub first_bad : List ℕ → ℕ

@@ -1,18 +1,17 @@
 // Rows where the tests are made, for proved callers.
-ghost use Rattle.std.specs.Prelude.{◌≡◌, true, cond, ◌&&◌, ◌||◌, ◌+◌, ◌*◌, ◌/◌, ◌%◌, ◌^◌, ◌<◌, ◌≤◌, length, eqb, ltb};
+ghost use Rattle.std.specs.Prelude.{◌≡◌, true, cond, ◌&&◌, ◌||◌, ◌+◌, ◌*◌, ◌^◌, ◌<◌, ◌≤◌, length, eqb, ltb};
 ghost use Rattle.std.proofs.lemmas.List.Edits.{sets};
-ghost use Rattle.bits.specs.Refusals.{longest, bad_row};
-ghost use Rattle.bits.specs.Signed.{signed};
-ghost use Rattle.record.specs.Record.{fits, record_bits, star_bits, date_bits, error_bits, filter_bits};
+ghost use Rattle.bits.specs.Refusals.{longest, number_of};
+ghost use Rattle.record.specs.Record.{fits, named as named_by, InFields, record_bits, star_bits, date_bits, error_bits, filter_bits};
 ghost use Rattle.strip.specs.Bits.{record_at};
 ghost use Rattle.strip.specs.Strip.{records_from, strip_length, strip_bytes};
 ghost use Rattle.rows.specs.Row.{letter, columns_at, in_range, record_said, row_bytes, row_length, letter_t, letter_f};
-ghost use Rattle.rows.specs.Rows.{rows_bytes, records_in_rows, bad_from, first_bad};
-ghost use Rattle.rows.specs.Answers.{row_refusal, read_refusal, rows_refusal, pack_refusal};
+ghost use Rattle.rows.specs.Rows.{rows_bytes, records_in_rows, bad_from, named};
+ghost use Rattle.rows.specs.Answers.{found_told, row_refusal, read_refusal, rows_refusal, found_of};
 
-use crate::ROW_LENGTH;
-use bits::{Order, refusals};
-use packing::State;
+use crate::{PackError, ROW_LENGTH};
+use bits::{LONGEST, Order, Refusal};
+use record::inner::Numbers;
 use record::{RECORD_BITS, Record};
 
 // The letters T and F of a column L.
@@ -22,20 +21,20 @@ const LETTER_F: u64 = 70;
 
 // ---- one record
 
-// The refusal number of writing a record's row.
-pub fn row_refusal(len: usize, found: Record) -> u32
-    ensures { result ≡ row_refusal len found }
+// Tests the writing of a record's row: 1, then 4 and 8.
+pub fn check_row(len: usize, found: Record) -> Result<(), Refusal>
+    ensures { number_of result ≡ row_refusal len found }
 {
-    if refusals::LONGEST < len {
-        return refusals::TOO_LONG;
+    if LONGEST < len {
+        return Err(Refusal::TooLong);
     }
-    if record::inner::fits(found) {
-        if len < ROW_LENGTH {
-            return refusals::NO_ROOM;
-        }
-        return refusals::DONE;
+    if !record::inner::fits(found) {
+        return Err(Refusal::TooLarge);
     }
-    refusals::TOO_LARGE
+    if len < ROW_LENGTH {
+        return Err(Refusal::NoRoom);
+    }
+    Ok(())
 }
 
 // The letter of a limit.
@@ -46,24 +45,17 @@ fn letter_of(limit: u64) -> u64
 }
 
 // Stores the row of six numbers from byte `at` on: three words that overlap, the date over the zeros beside the others.
-fn put_columns(
-    out: &mut [u8],
-    at: usize,
-    star: u64,
-    date: u64,
-    limit: u64,
-    magnitude: u64,
-    error: u64,
-    filter: u64,
-)
-    requires { (at + row_length ≤ length out.old) × (star < 2 ^ star_bits) × (date < 2 ^ date_bits) × (magnitude < 2 ^ 16) × (error < 2 ^ error_bits) × (filter < 2 ^ filter_bits) }
-    ensures { out.new ≡ sets out.old at (row_bytes (record { star = star; date = date; limit = limit; magnitude = signed 16 magnitude; error = error; filter = filter })) }
+#[inline]
+fn put_columns(out: &mut [u8], at: usize, six: Numbers)
+    requires { (at + row_length ≤ length out.old) × InFields six }
+    ensures { out.new ≡ sets out.old at (row_bytes (named_by six)) }
 {
-    let l = letter_of(limit);
-    let low = l * 0x100_0000_0000 + magnitude * 0x100_0000 + error * 0x100 + filter;
-    packing::inner::store_whole(Order::Big, out, at, star * 0x1_0000_0000);
+    let l = letter_of(six.limit);
+    let bits = six.magnitude % 0x1_0000;
+    let low = l * 0x100_0000_0000 + bits * 0x100_0000 + six.error * 0x100 + six.filter;
+    packing::inner::store_whole(Order::Big, out, at, six.star * 0x1_0000_0000);
     packing::inner::store_whole(Order::Big, out, at + 10, low);
-    packing::inner::store_whole(Order::Big, out, at + 4, date);
+    packing::inner::store_whole(Order::Big, out, at + 4, six.date);
 }
 
 // Stores a record's row at the front.
@@ -71,33 +63,16 @@ pub fn put_row(out: &mut [u8], found: Record)
     requires { (row_length ≤ length out.old) × (fits found ≡ true) }
     ensures { out.new ≡ sets out.old 0 (row_bytes found) }
 {
-    put_columns(
-        out,
-        0,
-        found.star as u64,
-        found.date,
-        found.limit as u64,
-        strip::inner::magnitude_bits(found.magnitude),
-        found.error as u64,
-        found.filter as u64,
-    )
+    put_columns(out, 0, Numbers::from(found))
 }
 
 // Whether the numbers of a row are those of a record.
+// (They are no record::inner::Numbers: a letter stands for the limit, and every magnitude will do. There is one call.)
 fn numbers_good(star: u64, date: u64, letter: u64, error: u64, filter: u64) -> bool
     ensures { result ≡ (ltb star (2 ^ star_bits) && (ltb date (2 ^ date_bits) && ((eqb letter letter_t || eqb letter letter_f) && (ltb error (2 ^ error_bits) && ltb filter (2 ^ filter_bits))))) }
 {
-    if star < 0x10_0000 {
-        if date < 0x40_0000_0000 {
-            if error < 0x400 {
-                if filter < 16 {
-                    if letter == LETTER_T {
-                        return true;
-                    }
-                    return letter == LETTER_F;
-                }
-            }
-        }
+    if star < 0x10_0000 && date < 0x40_0000_0000 && error < 0x400 && filter < 16 {
+        return letter == LETTER_T || letter == LETTER_F;
     }
     false
 }
@@ -144,55 +119,35 @@ pub fn row_at(src: &[u8], at: usize) -> Record
     }
 }
 
-// The refusal number of reading a row.
-pub fn read_refusal(src: &[u8]) -> u32
-    ensures { result ≡ read_refusal src.now }
+// Tests the reading of a row: 1, then 9 and 11.
+pub fn check_read(src: &[u8]) -> Result<(), Refusal>
+    ensures { number_of result ≡ read_refusal src.now }
 {
-    if refusals::LONGEST < src.len() {
-        return refusals::TOO_LONG;
+    if LONGEST < src.len() {
+        return Err(Refusal::TooLong);
     }
     if src.len() < ROW_LENGTH {
-        return refusals::TOO_FEW;
+        return Err(Refusal::TooFew);
     }
-    if row_good(src, 0) {
-        return refusals::DONE;
+    if !row_good(src, 0) {
+        return Err(Refusal::BadRow);
     }
-    refusals::BAD_ROW
+    Ok(())
 }
 
 // ---- a strip to rows
 
-// The refusal number of writing a strip's rows to `len` bytes.
-pub fn rows_refusal(strip: &[u8], len: usize) -> u32
-    ensures { result ≡ rows_refusal strip.now len }
+// Tests the writing of a strip's rows to `len` bytes: 1, then 8.
+pub fn check_rows(strip: &[u8], len: usize) -> Result<(), Refusal>
+    ensures { number_of result ≡ rows_refusal strip.now len }
 {
-    if refusals::LONGEST < strip.len() {
-        return refusals::TOO_LONG;
-    }
-    if refusals::LONGEST < len {
-        return refusals::TOO_LONG;
+    if LONGEST < strip.len() || LONGEST < len {
+        return Err(Refusal::TooLong);
     }
     if len < ROW_LENGTH * (8 * strip.len() / RECORD_BITS) {
-        return refusals::NO_ROOM;
+        return Err(Refusal::NoRoom);
     }
-    refusals::DONE
-}
-
-// Stores a record's row, the last four fields out of one of 31 bits.
-fn put_parts(out: &mut [u8], at: usize, star: u64, date: u64, rest: u64)
-    requires { (at + row_length ≤ length out.old) × (star < 2 ^ star_bits) × (date < 2 ^ date_bits) }
-    ensures { out.new ≡ sets out.old at (row_bytes (record { star = star; date = date; limit = rest / 2 ^ 30; magnitude = signed 16 (rest / 2 ^ 14 % 2 ^ 16); error = rest / 2 ^ 4 % 2 ^ 10; filter = rest % 2 ^ 4 })) }
-{
-    put_columns(
-        out,
-        at,
-        star,
-        date,
-        rest / 0x4000_0000,
-        rest / 0x4000 % 0x1_0000,
-        rest / 16 % 0x400,
-        rest % 16,
-    )
+    Ok(())
 }
 
 // Stores the row of the record that starts `used` bits into byte `byte`, where 15 bytes are there from that one on: two words moved alike.
@@ -204,13 +159,10 @@ fn put_row_used(src: &[u8], byte: usize, used: u32, out: &mut [u8], at: usize)
     let second = words::inner::load_whole(Order::Big, src, byte + 7);
     let front = bits::inner::skip_bits(Order::Big, first, used);
     let back = bits::inner::skip_bits(Order::Big, second, used);
-    put_parts(
-        out,
-        at,
-        front / 0x1000_0000_0000,
-        front / 0x100 % 0x10_0000_0000 * 4 + back / 0x4000_0000_0000_0000,
-        back / 0x8000_0000 % 0x8000_0000,
-    );
+    let star = front / 0x1000_0000_0000;
+    let date = front / 0x100 % 0x10_0000_0000 * 4 + back / 0x4000_0000_0000_0000;
+    let rest = back / 0x8000_0000 % 0x8000_0000;
+    put_columns(out, at, strip::inner::numbers_in(star, date, rest));
 }
 
 // Stores the row of the record at a place: where 15 bytes are there from its first on, no load tests for the end.
@@ -224,7 +176,7 @@ fn put_row_at(src: &[u8], place: usize, out: &mut [u8], at: usize)
         let star = words::inner::short_field(Order::Big, src, place, 20);
         let date = words::inner::short_field(Order::Big, src, place + 20, 38);
         let rest = words::inner::short_field(Order::Big, src, place + 58, 31);
-        put_parts(out, at, star, date, rest);
+        put_columns(out, at, strip::inner::numbers_in(star, date, rest));
     }
 }
 
@@ -237,19 +189,14 @@ fn put_nth(src: &[u8], byte: usize, k: u32, out: &mut [u8], at: usize)
     put_row_used(src, byte + 11 * n, k, out, at + ROW_LENGTH * n);
 }
 
-// Stores the rows of eight records that start at byte `byte`, where three bytes more than their 89 are there: every shift is constant.
+// Stores the rows of eight records that start at byte `byte`, where three bytes more than their 89 are there: the loop is unrolled, so that every shift is constant.
 fn put_eight(src: &[u8], byte: usize, out: &mut [u8], at: usize)
     requires { (byte + 92 ≤ length src.now) × (at + row_length * 8 ≤ length out.old) }
     ensures { out.new ≡ sets out.old at (rows_bytes (records_from src.now (8 * byte) 8)) }
 {
-    put_nth(src, byte, 0, out, at);
-    put_nth(src, byte, 1, out, at);
-    put_nth(src, byte, 2, out, at);
-    put_nth(src, byte, 3, out, at);
-    put_nth(src, byte, 4, out, at);
-    put_nth(src, byte, 5, out, at);
-    put_nth(src, byte, 6, out, at);
-    put_nth(src, byte, 7, out, at);
+    for k in 0..8 {
+        put_nth(src, byte, k, out, at);
+    }
 }
 
 // Stores the rows of the first records of a strip: eight at a time while more are left, then one at a time.
@@ -257,75 +204,44 @@ pub fn put_rows(src: &[u8], count: usize, out: &mut [u8])
     requires { (record_bits * count ≤ 8 * length src.now) × (length src.now ≤ longest) × (row_length * count ≤ length out.old) }
     ensures { out.new ≡ sets out.old 0 (rows_bytes (records_from src.now 0 count)) }
 {
-    let mut i = 0;
-    let mut byte = 0;
-    let mut at = 0;
-    while 8 < count - i {
-        put_eight(src, byte, out, at);
-        i += 8;
-        byte += 89;
-        at += 144;
+    let groups = count.saturating_sub(1) / 8;
+    for i in 0..groups {
+        put_eight(src, RECORD_BITS * i, out, 8 * ROW_LENGTH * i);
     }
-    let mut place = 8 * byte;
-    while i < count {
-        put_row_at(src, place, out, at);
-        i += 1;
-        place += RECORD_BITS;
-        at += ROW_LENGTH;
+    for i in 8 * groups..count {
+        put_row_at(src, RECORD_BITS * i, out, ROW_LENGTH * i);
     }
 }
 
 // ---- rows to a strip
 
-// The number of the first of n rows that says no record, from 1; 0 where each says one.
-pub fn first_bad(src: &[u8], n: usize) -> usize
+// The number of the first of n rows that says no record, from 1; none where each says one.
+pub fn first_bad(src: &[u8], n: usize) -> Option<usize>
     requires { (row_length * n ≤ length src.now) × (length src.now ≤ longest) }
-    ensures { result ≡ bad_from src.now 0 1 n }
+    ensures { result ≡ named (bad_from src.now 0 1 n) }
 {
-    let mut i = 0;
-    let mut at = 0;
-    while i < n {
-        if row_good(src, at) {
-            i += 1;
-            at += ROW_LENGTH;
-        } else {
-            return i + 1;
+    for i in 0..n {
+        if !row_good(src, ROW_LENGTH * i) {
+            return Some(i + 1);
         }
     }
-    0
+    None
 }
 
-// A refusal number, and with 11 the number of the first bad row.
-#[derive(Clone, Copy)]
-pub struct Found {
-    pub refusal: u32,
-    pub row: usize,
-}
-
-fn because(refusal: u32, row: usize) -> Found
-    ensures { result ≡ record { refusal = refusal; row = row } }
+// Tests the packing of rows into `len` bytes: 1 and 8, then the first bad row.
+pub fn check_pack(rows: &[u8], len: usize) -> Result<(), PackError>
+    ensures { found_told result ≡ found_of rows.now len }
 {
-    Found { refusal, row }
-}
-
-// The refusal number of packing rows into `len` bytes.
-pub fn pack_refusal(rows: &[u8], len: usize) -> Found
-    ensures { result ≡ record { refusal = pack_refusal rows.now len; row = cond (eqb (pack_refusal rows.now len) bad_row) (first_bad rows.now) 0 } }
-{
-    if refusals::LONGEST < rows.len() {
-        return because(refusals::TOO_LONG, 0);
-    }
-    if refusals::LONGEST < len {
-        return because(refusals::TOO_LONG, 0);
+    if LONGEST < rows.len() || LONGEST < len {
+        return Err(PackError::Refused(Refusal::TooLong));
     }
     if 8 * len / RECORD_BITS < rows.len() / ROW_LENGTH {
-        return because(refusals::NO_ROOM, 0);
+        return Err(PackError::Refused(Refusal::NoRoom));
     }
-    let bad = first_bad(rows, rows.len() / ROW_LENGTH);
-    if bad == 0 {
-        return because(refusals::DONE, 0);
+    match first_bad(rows, rows.len() / ROW_LENGTH) {
+        Some(row) => Err(PackError::BadRow(row)),
+        None => Ok(()),
     }
-    because(refusals::BAD_ROW, bad)
 }
 
 // Packs n rows that say records and flushes; the answer is the strip's length.
@@ -334,18 +250,10 @@ pub fn put_records(src: &[u8], n: usize, out: &mut [u8]) -> usize
     ensures answer { result ≡ strip_length n }
     ensures memory { out.new ≡ sets out.old 0 (strip_bytes (records_in_rows src.now 0 n)) }
 {
-    let mut c = State {
-        written: 0,
-        held: 0,
-        number: 0,
-    };
-    let mut i = 0;
-    let mut at = 0;
-    while i < n {
-        let found = row_at(src, at);
+    let mut c = strip::inner::START;
+    for i in 0..n {
+        let found = row_at(src, ROW_LENGTH * i);
         c = strip::inner::put_record(out, c, found);
-        i += 1;
-        at += ROW_LENGTH;
     }
     let last = writer::inner::flush(Order::Big, out, writer::inner::writer_with(c));
     last.written

@@ -1,29 +1,22 @@
 // FITS rows on standard input, as a strip on standard output: all that is written is the row pack job's answer to all that was read.
 #![tactic(auto)]
 
-ghost use Rattle.std.specs.Prelude.{◌≡◌, ◌<◌, length, take};
-ghost use Rattle.jobs.specs.Jobs.{most_taken, pack_rows_answer};
+ghost use Rattle.jobs.specs.Jobs.{pack_rows_answer};
 
-use programs::inner::Input;
+use programs::inner::Job;
 
-fn main(rt: HostRuntime) {
-    let mut space = [0u8; 65537];
-    let input = programs::inner::read_input(&mut rt.stdin(), &mut space);
-    if input.failed {
-        programs::inner::tell_unread(&rt);
-        return;
+struct PackRows;
+
+impl Job for PackRows {
+    ghost answer = { pack_rows_answer };
+
+    ghost room = { 40495 };
+
+    fn answer(input: &[u8], out: &mut [u8]) -> usize {
+        jobs::pack_rows_answer(input, out).unwrap()
     }
-    let n = input.count;
-    let mut out = [0u8; 65536];
-    let answered = jobs::pack_rows_answer(&space[..n], &mut out);
-    let length = answered.length;
-    write_answer(&rt, &space, input, &out[..length]);
 }
 
-// Writes the answer to what was read into a space that holds more than a program takes.
-fn write_answer(rt: &(impl Print + Eprint), space: &[u8], input: Input, answer: &[u8])
-    requires most_taken_in_bounds { most_taken < length space.now }
-    requires answer_value { answer.now ≡ pack_rows_answer (take input.count space.now) }
-{
-    programs::inner::write_output(rt, answer);
+fn main(rt: HostRuntime) {
+    programs::inner::run::<PackRows>(&mut rt.stdin(), &rt, &mut [0u8; 65537], &mut [0u8; 65536]);
 }

@@ -4,22 +4,23 @@
 
 ghost use Rattle.std.specs.Prelude.{◌≡◌, ◌≤◌, length, take};
 
-use bits::Order;
+use bits::{Order, Refusal};
 use reader::Cursor;
 use script_words::inner as spelling;
 use script_words::inner::Line;
 use writer::Writer;
 
+mod fixed;
 mod others;
 pub mod program;
 mod reads;
 mod writes;
 
-// Whether the order is little endian, whether calls are made the other way, how many bytes of the source and of the output are in use,
-// the cursor and the writer.
-#[derive(Clone, Copy)]
+// The order, whether calls are made the other way, how many bytes of the source and of the output are in use, the cursor and the writer.
+// (No heap: source and output are arrays of a fixed size, and their counts stand here.)
+#[derive(Clone, Copy, Debug, PartialEq, Eq)]
 struct Machine {
-    little: bool,
+    order: Order,
     other: bool,
     len: usize,
     size: usize,
@@ -28,7 +29,7 @@ struct Machine {
 }
 
 // What a line calls, if anything.
-#[derive(Clone, Copy)]
+#[derive(Clone, Copy, Debug, PartialEq, Eq)]
 enum Target {
     Cursor,
     Writer,
@@ -36,7 +37,7 @@ enum Target {
 }
 
 // The machine after a line, and the length of the answer; 0 where the line asks nothing.
-#[derive(Clone, Copy)]
+#[derive(Clone, Copy, Debug, PartialEq, Eq)]
 struct Done {
     machine: Machine,
     length: usize,
@@ -45,7 +46,7 @@ struct Done {
 // A machine with an empty source, an empty output, and a cursor and a writer of zeros.
 fn start() -> Machine {
     Machine {
-        little: true,
+        order: Order::Little,
         other: false,
         len: 0,
         size: 0,
@@ -69,8 +70,7 @@ fn run_line(
 ) -> Done
     ensures { result.length ≤ length line.old }
 {
-    let target = target_of(l.letter);
-    match target {
+    match target_of(l.letter) {
         Target::Cursor => on_cursor(l, m, src, buf, line),
         Target::Writer => on_writer(l, m, out, buf, line),
         Target::Nothing => Done {
@@ -80,7 +80,8 @@ fn run_line(
     }
 }
 
-// What a letter calls: sign extension and the double of a single are answered beside the calls on the cursor.
+// What a letter calls: sign extension and the double of a single are answered beside the calls on the cursor. (Letters stay as scripts
+// have them: an enum of calls would only spell each a second time.)
 fn target_of(letter: u8) -> Target {
     match letter {
         b'n' | b'b' | b's' | b'f' | b'q' | b'h' | b'p' | b'c' | b'r' | b'y' | b'm' =>
@@ -94,39 +95,16 @@ fn target_of(letter: u8) -> Target {
 // The machine after a line that sets something up; the same after any other.
 fn setup(l: Line, m: Machine, src: &mut [u8], out: &mut [u8], buf: &[u8]) -> Machine {
     let mut next = m;
-    let letter = l.letter;
-    match letter {
-        b'L' => {
-            next.little = true;
-        }
-        b'B' => {
-            next.little = false;
-        }
-        b'T' => {
-            next.other = true;
-        }
-        b'U' => {
-            next.other = false;
-        }
-        b'S' => {
-            next.len = spelling::copy(buf, l.count, src);
-        }
-        b'O' => {
-            next.size = spelling::repeat(out, l.first, (l.second % 256) as u8);
-        }
-        b'C' => {
-            let c = given_cursor(l, src, m.len);
-            next.cursor = c;
-        }
-        b'E' => {
-            let c = m.cursor;
-            let cut = given_end(l, c);
-            next.cursor = cut;
-        }
-        b'D' => {
-            let w = given_writer(l);
-            next.writer = w;
-        }
+    match l.letter {
+        b'L' => next.order = Order::Little,
+        b'B' => next.order = Order::Big,
+        b'T' => next.other = true,
+        b'U' => next.other = false,
+        b'S' => next.len = spelling::copy(buf, l.count, src),
+        b'O' => next.size = spelling::repeat(out, l.first, (l.second % 256) as u8),
+        b'C' => next.cursor = given_cursor(l, src, m.len),
+        b'E' => next.cursor = given_end(l, m.cursor),
+        b'D' => next.writer = given_writer(l),
         _ => {}
     }
     next
@@ -135,13 +113,12 @@ fn setup(l: Line, m: Machine, src: &mut [u8], out: &mut [u8], buf: &[u8]) -> Mac
 // The cursor of three numbers, its end that of a fresh one.
 fn given_cursor(l: Line, all: &[u8], n: usize) -> Cursor {
     let len = within(all, n);
-    let made = Cursor::new(&all[..len]);
-    let fresh = made.cursor;
+    let end = Cursor::new(&all[..len]).map_or(0, |fresh| fresh.end);
     Cursor::from_parts(
         l.first as usize,
         (l.second % 0x1_0000_0000) as u32,
         l.third,
-        fresh.end,
+        end,
     )
 }
 
@@ -163,26 +140,17 @@ fn given_writer(l: Line) -> Writer {
 fn on_cursor(l: Line, m: Machine, all: &[u8], buf: &mut [u8], line: &mut [u8]) -> Done
     ensures { result.length ≤ length line.old }
 {
-    let c = m.cursor;
     let len = within(all, m.len);
-    let order = order(m.little);
-    let r = others::read(
-        m.other,
-        l.letter,
-        l.first,
-        l.second,
-        order,
-        c,
-        &all[..len],
-        buf,
-        line,
-    );
+    let after = if m.other {
+        others::read(l, m.order, m.cursor, &all[..len], buf, line)
+    } else {
+        reads::call(l, m.order, m.cursor, &all[..len], buf, line)
+    };
     let mut next = m;
-    let after = r.cursor;
-    next.cursor = after;
+    next.cursor = after.cursor;
     Done {
         machine: next,
-        length: r.length,
+        length: after.length,
     }
 }
 
@@ -190,27 +158,18 @@ fn on_cursor(l: Line, m: Machine, all: &[u8], buf: &mut [u8], line: &mut [u8]) -
 fn on_writer(l: Line, m: Machine, all: &mut [u8], buf: &[u8], line: &mut [u8]) -> Done
     ensures { result.length ≤ length line.old }
 {
-    let w = m.writer;
     let size = within(all, m.size);
     let count = within(buf, l.count);
-    let order = order(m.little);
-    let r = others::write(
-        m.other,
-        l.letter,
-        l.first,
-        l.second,
-        order,
-        w,
-        &mut all[..size],
-        &buf[..count],
-        line,
-    );
+    let after = if m.other {
+        others::write(l, m.order, m.writer, &mut all[..size], &buf[..count], line)
+    } else {
+        writes::call(l, m.order, m.writer, &mut all[..size], &buf[..count], line)
+    };
     let mut next = m;
-    let after = r.writer;
-    next.writer = after;
+    next.writer = after.writer;
     Done {
         machine: next,
-        length: r.length,
+        length: after.length,
     }
 }
 
@@ -219,19 +178,18 @@ fn within(all: &[u8], n: usize) -> usize
     ensures in_bounds { result ≤ length all.now }
     ensures prefix { result ≡ length (take result all.now) }
 {
-    if all.len() < n { all.len() } else { n }
-}
-
-// The order that a machine goes by.
-fn order(little: bool) -> Order {
-    if little { Order::Little } else { Order::Big }
+    all.len().min(n)
 }
 
 // A number as a width or a count: one past 32 bits is a large one.
 fn narrow(n: u64) -> u32 {
-    if n < 0x1_0000_0000 {
-        n as u32
-    } else {
-        0xffff_ffff
+    u32::try_from(n).unwrap_or(u32::MAX)
+}
+
+// An answer as its two numbers: that of the refusal or 0, and the value or 0.
+fn numbers(value: Result<u64, Refusal>) -> (u64, u64) {
+    match value {
+        Ok(value) => (0, value),
+        Err(refusal) => (u64::from(refusal.number()), 0),
     }
 }

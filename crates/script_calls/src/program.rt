@@ -16,11 +16,13 @@ pub fn run(stdin: &mut impl Read, rt: &impl Print) {
     let mut out = [0u8; 4096];
     let mut buf = [0u8; 4096];
     let mut lines = [0u8; 65536];
-    let n = programs::inner::read_input(stdin, &mut space).count;
+    let n = match programs::inner::read_input(stdin, &mut space) {
+        Ok(n) | Err(n) => n,
+    };
     answer(rt, &space[..n], &mut src, &mut out, &mut buf, &mut lines);
 }
 
-// Runs a script. Answers are gathered in `lines`, and written when they are many.
+// Runs a script. Answers are gathered in `lines`, and written when they are many. (The place goes on by what a line took, not by one.)
 fn answer(
     rt: &impl Print,
     script: &[u8],
@@ -57,9 +59,8 @@ fn called(
     ensures { result.length ≤ length lines.old }
 {
     let done = crate::run_line(l, m, src, out, buf, &mut lines[used..]);
-    let after = done.machine;
     Done {
-        machine: after,
+        machine: done.machine,
         length: ended(rt, lines, used, done.length),
     }
 }

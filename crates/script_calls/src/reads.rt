@@ -1,209 +1,141 @@
 // Calls on the cursor, sign extension, and the double of a single.
 ghost use Rattle.std.specs.Prelude.{◌≤◌, length};
 
-use bits::Order;
-use reader::{Cursor, ReadU64};
+use crate::fixed::Fixed;
+use bits::{Order, Refusal};
+use reader::{Cursor, Read};
 use script_words::inner as spelling;
+use script_words::inner::Line;
+use sign::inner::bits_of_signed;
 
 // The cursor after a call, and the length of the answer.
-#[derive(Clone, Copy)]
-pub struct Read {
+#[derive(Clone, Copy, Debug, PartialEq, Eq)]
+pub struct After {
     pub cursor: Cursor,
     pub length: usize,
 }
 
 // Runs a call with two numbers at most.
-pub fn call(
-    letter: u8,
-    a: u64,
-    b: u64,
-    order: Order,
-    c: Cursor,
-    src: &[u8],
-    buf: &mut [u8],
-    line: &mut [u8],
-) -> Read
+pub fn call(l: Line, order: Order, c: Cursor, src: &[u8], buf: &mut [u8], line: &mut [u8]) -> After
     ensures { result.length ≤ length line.old }
 {
-    match letter {
+    match l.letter {
         b'y' => {
-            let size = spelling::repeat(buf, a, 0xee);
+            let size = spelling::repeat(buf, l.first, 0xee);
             bytes(c, order, src, &mut buf[..size], line)
         }
-        b'm' => Read {
+        b'm' => After {
             cursor: c,
             length: remainder(c, order, src, line),
         },
-        b'k' | b'g' => Read {
+        b'k' | b'g' => After {
             cursor: c,
-            length: shown(letter, c, line),
+            length: shown(l.letter, c, line),
         },
-        b'e' => Read {
+        b'e' => After {
             cursor: c,
-            length: extend(a, b, line),
+            length: extend(l.first, l.second, line),
         },
-        b'd' => Read {
+        b'd' => After {
             cursor: c,
-            length: widen(a, line),
+            length: widen(l.first, line),
         },
-        _ => told_of(answer(letter, a, c, order, src), line),
+        _ => told_of(c, answer(l.letter, l.first, c, order, src), line),
     }
 }
 
 // The answer of a call that is told by four numbers.
-fn answer(letter: u8, n: u64, c: Cursor, order: Order, src: &[u8]) -> ReadU64 {
+fn answer(letter: u8, n: u64, c: Cursor, order: Order, src: &[u8]) -> Result<Read<u64>, Refusal> {
     match letter {
-        b'n' => {
-            let r = Cursor::new(src);
-            let next = r.cursor;
-            plain(r.refusal, 0, next)
-        }
+        b'n' => moved(Cursor::new(src)),
         b'b' => c.read_bits(order, src, crate::narrow(n)),
-        b's' => {
-            let r = c.read_signed_bits(order, src, crate::narrow(n));
-            let next = r.cursor;
-            plain(r.refusal, sign::inner::bits_of_signed(r.value), next)
-        }
-        b'f' => fixed(n, c, order, src),
-        b'q' => count(n, c, order, src),
-        b'h' => {
-            let r = c.has_bits_remaining(order, src, n as usize);
-            plain(r.refusal, flag(r.value), c)
-        }
-        _ => manual(letter, n, c, order, src),
+        b's' => bits_of(
+            c.read_signed_bits(order, src, crate::narrow(n)),
+            |z| bits_of_signed(z),
+        ),
+        b'f' => fixed(Fixed::from(n), c, order, src),
+        b'q' => seen(c, count(n, c, order, src)),
+        b'h' => seen(
+            c,
+            c.has_bits_remaining(order, src, n as usize)
+                .map(|b| u64::from(b)),
+        ),
+        b'p' => seen(c, c.peek(order, src, crate::narrow(n))),
+        b'c' => moved(c.consume(order, src, crate::narrow(n))),
+        b'l' => moved(c.lower_end(order, src, n as usize)),
+        _ => moved(c.refill_lookahead(order, src)),
     }
 }
 
 // A read of a fixed width, its value as bits.
-pub fn fixed(k: u64, c: Cursor, order: Order, src: &[u8]) -> ReadU64 {
+pub fn fixed(k: Fixed, c: Cursor, order: Order, src: &[u8]) -> Result<Read<u64>, Refusal> {
     match k {
-        0 => {
-            let r = c.read_bit(order, src);
-            let next = r.cursor;
-            plain(r.refusal, flag(r.value), next)
-        }
-        1 => {
-            let r = c.read_u8(order, src);
-            let next = r.cursor;
-            plain(r.refusal, r.value as u64, next)
-        }
-        2 => {
-            let r = c.read_i8(order, src);
-            let next = r.cursor;
-            plain(r.refusal, bits_of_i8(r.value), next)
-        }
-        3 => {
-            let r = c.read_u16(order, src);
-            let next = r.cursor;
-            plain(r.refusal, r.value as u64, next)
-        }
-        4 => {
-            let r = c.read_i16(order, src);
-            let next = r.cursor;
-            plain(r.refusal, bits_of_i16(r.value), next)
-        }
-        5 => {
-            let r = c.read_u32(order, src);
-            let next = r.cursor;
-            plain(r.refusal, r.value as u64, next)
-        }
-        _ => fixed_wide(k, c, order, src),
+        Fixed::Bit => bits_of(c.read_bit(order, src), |b| u64::from(b)),
+        Fixed::U8 => bits_of(c.read_u8(order, src), |n| u64::from(n)),
+        Fixed::I8 => bits_of(c.read_i8(order, src), |z| bits_of_signed(i64::from(z))),
+        Fixed::U16 => bits_of(c.read_u16(order, src), |n| u64::from(n)),
+        Fixed::I16 => bits_of(c.read_i16(order, src), |z| bits_of_signed(i64::from(z))),
+        Fixed::U32 => bits_of(c.read_u32(order, src), |n| u64::from(n)),
+        Fixed::I32 => bits_of(c.read_i32(order, src), |z| bits_of_signed(i64::from(z))),
+        Fixed::F32 => bits_of(c.read_f32(order, src), |x| {
+            u64::from(floats::bits_of_single(x))
+        }),
+        Fixed::U64 => c.read_u64(order, src),
+        Fixed::I64 => bits_of(c.read_i64(order, src), |z| bits_of_signed(z)),
+        Fixed::F64 => bits_of(c.read_f64(order, src), |x| floats::bits_of_double(x)),
     }
 }
 
-// The fixed widths numbered 6 to 10.
-fn fixed_wide(k: u64, c: Cursor, order: Order, src: &[u8]) -> ReadU64 {
+// A count or a test. (Its number is looked at here alone, so it has no enum.)
+fn count(k: u64, c: Cursor, order: Order, src: &[u8]) -> Result<u64, Refusal> {
     match k {
-        6 => {
-            let r = c.read_i32(order, src);
-            let next = r.cursor;
-            plain(r.refusal, bits_of_i32(r.value), next)
-        }
-        7 => {
-            let r = c.read_f32(order, src);
-            let next = r.cursor;
-            let value = r.value;
-            plain(r.refusal, floats::bits_of_single(value) as u64, next)
-        }
-        8 => c.read_u64(order, src),
-        9 => {
-            let r = c.read_i64(order, src);
-            let next = r.cursor;
-            plain(r.refusal, sign::inner::bits_of_signed(r.value), next)
-        }
-        _ => {
-            let r = c.read_f64(order, src);
-            let next = r.cursor;
-            let value = r.value;
-            plain(r.refusal, floats::bits_of_double(value), next)
-        }
+        0 => c.bytes_remaining(order, src).map(|n| n as u64),
+        1 => c.unbuffered_bytes_remaining(order, src).map(|n| n as u64),
+        2 => c.bits_remaining(order, src).map(|n| n as u64),
+        3 => c.is_empty(order, src).map(|b| u64::from(b)),
+        4 => c.byte_aligned(order, src).map(|b| u64::from(b)),
+        _ => c.lookahead_bits(order, src).map(|n| u64::from(n)),
     }
 }
 
-// A count or a test.
-fn count(k: u64, c: Cursor, order: Order, src: &[u8]) -> ReadU64 {
-    match k {
-        0 => {
-            let r = c.bytes_remaining(order, src);
-            plain(r.refusal, r.value as u64, c)
-        }
-        1 => {
-            let r = c.unbuffered_bytes_remaining(order, src);
-            plain(r.refusal, r.value as u64, c)
-        }
-        2 => {
-            let r = c.bits_remaining(order, src);
-            plain(r.refusal, r.value as u64, c)
-        }
-        3 => {
-            let r = c.is_empty(order, src);
-            plain(r.refusal, flag(r.value), c)
-        }
-        4 => {
-            let r = c.byte_aligned(order, src);
-            plain(r.refusal, flag(r.value), c)
-        }
-        _ => {
-            let r = c.lookahead_bits(order, src);
-            plain(r.refusal, r.value as u64, c)
-        }
-    }
+// A read with its value as 64 bits.
+pub fn bits_of<T: Copy, F: FnOnce(T) -> u64>(
+    read: Result<Read<T>, Refusal>,
+    bits: F,
+) -> Result<Read<u64>, Refusal>
+    requires { F.IsAlwaysCallable bits }
+{
+    let read = read?;
+    Ok(Read {
+        value: bits(read.value),
+        cursor: read.cursor,
+    })
 }
 
-// A call of manual mode, or a lower end.
-fn manual(letter: u8, n: u64, c: Cursor, order: Order, src: &[u8]) -> ReadU64 {
-    match letter {
-        b'p' => {
-            let r = c.peek(order, src, crate::narrow(n));
-            plain(r.refusal, r.value, c)
-        }
-        b'c' => {
-            let r = c.consume(order, src, crate::narrow(n));
-            let next = r.cursor;
-            plain(r.refusal, 0, next)
-        }
-        b'l' => {
-            let r = c.lower_end(order, src, n as usize);
-            let next = r.cursor;
-            plain(r.refusal, 0, next)
-        }
-        _ => {
-            let r = c.refill_lookahead(order, src);
-            let next = r.cursor;
-            plain(r.refusal, 0, next)
-        }
-    }
+// A move, which has the value 0.
+pub fn moved(next: Result<Cursor, Refusal>) -> Result<Read<u64>, Refusal> {
+    Ok(Read {
+        value: 0,
+        cursor: next?,
+    })
+}
+
+// A value that moves no cursor.
+pub fn seen(c: Cursor, value: Result<u64, Refusal>) -> Result<Read<u64>, Refusal> {
+    Ok(Read {
+        value: value?,
+        cursor: c,
+    })
 }
 
 // read_bytes into a buffer: its bytes follow the four numbers.
-fn bytes(c: Cursor, order: Order, src: &[u8], buf: &mut [u8], line: &mut [u8]) -> Read
+fn bytes(c: Cursor, order: Order, src: &[u8], buf: &mut [u8], line: &mut [u8]) -> After
     ensures { result.length ≤ length line.old }
 {
-    let r = c.read_bytes(order, src, buf);
-    let next = r.cursor;
-    let value = if r.refusal == 0 { buf.len() as u64 } else { 0 };
-    let end = told(line, r.refusal, value, next);
-    Read {
+    let moved = c.read_bytes(order, src, buf);
+    let next = moved.unwrap_or(c);
+    let end = told(line, moved.map(|_next| buf.len() as u64), next);
+    After {
         cursor: next,
         length: spelling::put_next_bytes(line, end, buf),
     }
@@ -213,9 +145,9 @@ fn bytes(c: Cursor, order: Order, src: &[u8], buf: &mut [u8], line: &mut [u8]) -
 fn remainder(c: Cursor, order: Order, src: &[u8], line: &mut [u8]) -> usize
     ensures { result ≤ length line.old }
 {
-    let r = c.partial(order, src);
-    let value = 16 * (r.partial_byte as u64) + r.partial_bits as u64;
-    let end = told(line, r.refusal, value, c);
+    let value = c.partial(order, src).map(|p| 16 * u64::from(p.partial_byte)
+        + u64::from(p.partial_bits));
+    let end = told(line, value, c);
     spelling::put_next_bytes(line, end, c.remainder(order, src))
 }
 
@@ -226,24 +158,16 @@ fn shown(letter: u8, c: Cursor, line: &mut [u8]) -> usize
     if letter == b'g' {
         return spelling::put_one(line, c.end as u64);
     }
-    spelling::put_three(line, c.offset as u64, c.lookahead as u64, c.register)
-}
-
-// An answer with a value of 64 bits.
-pub fn plain(refusal: u32, value: u64, c: Cursor) -> ReadU64 {
-    ReadU64 {
-        refusal: refusal,
-        value: value,
-        cursor: c,
-    }
+    spelling::put_three(line, c.offset as u64, u64::from(c.lookahead), c.register)
 }
 
 // sign_extend: `refusal value`.
 fn extend(value: u64, width: u64, line: &mut [u8]) -> usize
     ensures { result ≤ length line.old }
 {
-    let r = sign::sign_extend(value, crate::narrow(width));
-    spelling::put_two(line, r.refusal as u64, sign::inner::bits_of_signed(r.value))
+    let extended = sign::sign_extend(value, crate::narrow(width));
+    let (refusal, bits) = crate::numbers(extended.map(|z| bits_of_signed(z)));
+    spelling::put_two(line, refusal, bits)
 }
 
 // double_of_single, both by their bits: `0 value`.
@@ -255,44 +179,27 @@ fn widen(bits: u64, line: &mut [u8]) -> usize
     spelling::put_two(line, 0, floats::bits_of_double(double))
 }
 
-// An answer's cursor, and its line.
-pub fn told_of(r: ReadU64, line: &mut [u8]) -> Read
+// An answer's cursor, which is the one that came where it is refused, and its line.
+pub fn told_of(came: Cursor, answer: Result<Read<u64>, Refusal>, line: &mut [u8]) -> After
     ensures { result.length ≤ length line.old }
 {
-    let next = r.cursor;
-    Read {
+    let next = answer.map_or(came, |read| read.cursor);
+    After {
         cursor: next,
-        length: told(line, r.refusal, r.value, next),
+        length: told(line, answer.map(|read| read.value), next),
     }
 }
 
 // `refusal value offset lookahead`.
-pub fn told(line: &mut [u8], refusal: u32, value: u64, c: Cursor) -> usize
+pub fn told(line: &mut [u8], value: Result<u64, Refusal>, c: Cursor) -> usize
     ensures { result ≤ length line.old }
 {
+    let (refusal, value) = crate::numbers(value);
     spelling::put_four(
         line,
-        refusal as u64,
+        refusal,
         value,
         c.offset as u64,
-        c.lookahead as u64,
+        u64::from(c.lookahead),
     )
-}
-
-// The number of a bool.
-fn flag(b: bool) -> u64 {
-    if b { 1 } else { 0 }
-}
-
-// A signed number as its 64-bit two's complement.
-fn bits_of_i8(z: i8) -> u64 {
-    sign::inner::bits_of_signed(z as i64)
-}
-
-fn bits_of_i16(z: i16) -> u64 {
-    sign::inner::bits_of_signed(z as i64)
-}
-
-fn bits_of_i32(z: i32) -> u64 {
-    sign::inner::bits_of_signed(z as i64)
 }

@@ -1,8 +1,8 @@
 // Reading words behind a place in a text, and writing words behind a line's end. A line takes what there is room for.
-ghost use Rattle.std.specs.Prelude.{◌≡◌, ◌≤◌, ◌<◌, ◌+◌, length, take};
+ghost use Rattle.std.specs.Prelude.{◌≡◌, ◌≤◌, ◌<◌, ◌+◌, length, take, IfSome};
 
 // A number, and the place behind it.
-#[derive(Clone, Copy)]
+#[derive(Clone, Copy, Debug, PartialEq, Eq)]
 struct Number {
     value: u64,
     next: usize,
@@ -10,7 +10,7 @@ struct Number {
 
 // A line's letter, the three numbers and the count of bytes behind it, of which the ones that it has mean something, and the place of
 // the next line.
-#[derive(Clone, Copy)]
+#[derive(Clone, Copy, Debug, PartialEq, Eq)]
 pub struct Line {
     pub letter: u8,
     pub first: u64,
@@ -43,22 +43,20 @@ fn line_end(text: &[u8], at: usize) -> usize
     requires { at < length text.now }
     ensures { (at < result) × (result ≤ length text.now) }
 {
-    let mut i = at;
-    while i < text.len() {
-        if text[i] == 10 {
-            return i + 1;
-        }
-        i += 1;
+    match text[at..].iter().position(|b| *b == b'\n') {
+        Some(before) => at + before + 1,
+        None => text.len(),
     }
-    i
 }
 
-// The value of a hexadecimal digit, or 255.
-fn digit(b: u8) -> u8 {
+// The value of a hexadecimal digit, which is none of the large letters.
+fn digit(b: u8) -> Option<u8>
+    ensures { IfSome result (λ d. d < 16) }
+{
     match b {
-        48..=57 => b - 48,
-        97..=102 => b - 87,
-        _ => 255,
+        b'0'..=b'9' => Some(b - b'0'),
+        b'a'..=b'f' => Some(b - b'a' + 10),
+        _ => None,
     }
 }
 
@@ -67,10 +65,8 @@ fn skip_space(text: &[u8], at: usize) -> usize
     requires { at ≤ length text.now }
     ensures { result ≤ length text.now }
 {
-    if at < text.len() {
-        if text[at] == 32 {
-            return at + 1;
-        }
+    if at < text.len() && text[at] == b' ' {
+        return at + 1;
     }
     at
 }
@@ -80,36 +76,22 @@ fn next_number(text: &[u8], at: usize) -> Number
     requires { at ≤ length text.now }
     ensures { result.next ≤ length text.now }
 {
-    let mut i = skip_space(text, at);
     let mut value: u64 = 0;
-    while i < text.len() {
-        let d = digit(text[i]);
-        if 15 < d {
+    for i in skip_space(text, at)..text.len() {
+        let Some(d) = digit(text[i]) else {
             return Number { value, next: i };
-        }
-        value = value % 0x1000_0000_0000_0000 * 16 + d as u64;
-        i += 1;
+        };
+        value = value % 0x1000_0000_0000_0000 * 16 + u64::from(d);
     }
-    Number { value, next: i }
+    Number {
+        value,
+        next: text.len(),
+    }
 }
 
-// The byte that two digits at `at` stand for, or 256 where there are no two.
-fn pair(text: &[u8], at: usize) -> u32
-    requires { at ≤ length text.now }
-    ensures { result < 256 → at + 2 ≤ length text.now }
-{
-    if text.len() - at < 2 {
-        return 256;
-    }
-    let high = digit(text[at]);
-    let low = digit(text[at + 1]);
-    if 15 < high {
-        return 256;
-    }
-    if 15 < low {
-        return 256;
-    }
-    (high * 16 + low) as u32
+// The byte that two digits stand for.
+fn pair(high: u8, low: u8) -> Option<u8> {
+    Some(digit(high)? * 16 + digit(low)?)
 }
 
 // The bytes behind a space, two digits each, as many as there is room for; the answer is their count.
@@ -117,15 +99,15 @@ fn bytes(text: &[u8], at: usize, into: &mut [u8]) -> usize
     requires { at ≤ length text.now }
     ensures { result ≤ length into.old }
 {
-    let mut i = skip_space(text, at);
     let mut n = 0;
-    while n < into.len() {
-        let byte = pair(text, i);
-        if 255 < byte {
+    for two in text[skip_space(text, at)..].chunks_exact(2) {
+        let Some(byte) = pair(two[0], two[1]) else {
+            return n;
+        };
+        if n == into.len() {
             return n;
         }
-        into[n] = byte as u8;
-        i += 2;
+        into[n] = byte;
         n += 1;
     }
     n
@@ -147,7 +129,7 @@ pub fn put(line: &mut [u8], at: usize, b: u8) -> usize
 fn glyph(d: u8) -> u8
     requires { d < 16 }
 {
-    if d < 10 { 48 + d } else { 87 + d }
+    if d < 10 { b'0' + d } else { b'a' + d - 10 }
 }
 
 // A number in hexadecimal digits, without needless zeros in front.
@@ -156,21 +138,10 @@ fn put_number(line: &mut [u8], at: usize, n: u64) -> usize
     ensures { result ≤ length line.old }
 {
     let mut end = at;
-    let mut unit = first_unit(n);
-    while 0 < unit {
-        end = put(line, end, glyph((n / unit % 16) as u8));
-        unit /= 16;
+    for place in (0..n.max(1).ilog2() / 4 + 1).rev() {
+        end = put(line, end, glyph((n >> (4 * place) & 0xf) as u8));
     }
     end
-}
-
-// The worth of a number's first hexadecimal digit.
-fn first_unit(n: u64) -> u64 {
-    let mut unit: u64 = 1;
-    while unit <= n / 16 {
-        unit *= 16;
-    }
-    unit
 }
 
 // A byte as two digits.
@@ -188,10 +159,8 @@ fn put_bytes(line: &mut [u8], at: usize, some: &[u8]) -> usize
     ensures { result ≤ length line.old }
 {
     let mut end = at;
-    let mut i = 0;
-    while i < some.len() {
-        end = put_byte(line, end, some[i]);
-        i += 1;
+    for b in some {
+        end = put_byte(line, end, *b);
     }
     end
 }
@@ -201,7 +170,7 @@ pub fn put_next_bytes(line: &mut [u8], at: usize, some: &[u8]) -> usize
     requires { at ≤ length line.old }
     ensures { result ≤ length line.old }
 {
-    let space = put(line, at, 32);
+    let space = put(line, at, b' ');
     put_bytes(line, space, some)
 }
 
@@ -210,7 +179,7 @@ fn put_next(line: &mut [u8], at: usize, n: u64) -> usize
     requires { at ≤ length line.old }
     ensures { result ≤ length line.old }
 {
-    let space = put(line, at, 32);
+    let space = put(line, at, b' ');
     put_number(line, space, n)
 }
 
@@ -249,7 +218,7 @@ pub fn put_four(line: &mut [u8], a: u64, b: u64, c: u64, d: u64) -> usize
 pub fn put_marked(line: &mut [u8], some: &[u8]) -> usize
     ensures { result ≤ length line.old }
 {
-    let end = put(line, 0, 61);
+    let end = put(line, 0, b'=');
     put_bytes(line, end, some)
 }
 
@@ -258,31 +227,16 @@ pub fn repeat(out: &mut [u8], n: u64, b: u8) -> usize
     ensures in_bounds { result ≤ length out.new }
     ensures prefix { result ≡ length (take result out.new) }
 {
-    let mut i = 0;
-    while i < out.len() {
-        if n <= i as u64 {
-            return i;
-        }
-        out[i] = b;
-        i += 1;
-    }
-    i
+    let count = out.len().min(n as usize);
+    out[..count].fill(b);
+    count
 }
 
 // Copies the first n bytes of `from` to the start of `into`, or as many as there are and there is room for; the answer is their count.
 pub fn copy(from: &[u8], n: usize, into: &mut [u8]) -> usize
     ensures { result ≤ length into.old }
 {
-    let mut i = 0;
-    while i < into.len() {
-        if n <= i {
-            return i;
-        }
-        if from.len() <= i {
-            return i;
-        }
-        into[i] = from[i];
-        i += 1;
-    }
-    i
+    let count = n.min(from.len()).min(into.len());
+    into[..count].copy_from_slice(&from[..count]);
+    count
 }

@@ -7,10 +7,7 @@ pub fn fits(val: u64, bits: u32) -> bool
     requires { bits ≤ 64 }
     ensures { result ≡ nat_lt val (2 ^ bits) }
 {
-    if bits == 64 {
-        return true;
-    }
-    val < 1 << bits
+    bits == 64 || val < 1 << bits
 }
 
 // The signed number that `bits` bits stand for: 2^bits is subtracted if the top bit is set, which is worth 2^(bits - 1). Width 0 is 0.
@@ -25,7 +22,7 @@ pub fn extend(val: u64, bits: u32) -> i64
         _ => {
             // twice the top bit's worth is 2^bits where it is set, and nothing where it is not
             let top = val & (1 << (bits - 1));
-            signed_of_bits(std::num::wrapping_sub_u64(val, 2 * top))
+            signed_of_bits(val.wrapping_sub(2 * top))
         }
     }
 }
@@ -47,20 +44,12 @@ pub fn widened(val: u64, bits: u32) -> u64
 pub fn signed_of_bits(x: u64) -> i64
     ensures { result ≡ signed 64 x }
 {
-    if x < 0x8000_0000_0000_0000 {
-        x as i64
-    } else {
-        -1 - ((0xffff_ffff_ffff_ffff - x) as i64)
-    }
+    x.cast_signed()
 }
 
 // The 64 bits of a signed number in two's complement.
 pub fn bits_of_signed(z: i64) -> u64
     ensures { result ≡ pattern 64 z }
 {
-    if z < 0 {
-        0xffff_ffff_ffff_ffff - ((-1 - z) as u64)
-    } else {
-        z as u64
-    }
+    z.cast_unsigned()
 }

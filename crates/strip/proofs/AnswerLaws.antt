@@ -7,8 +7,9 @@ use native.Mathlib.Omega.{arith}
 use lib.ListN.{length}
 use lib.Seq.{sets}
 use borrow.Author.Tests.{le-ltb, eq-eqb}
+use Rattle.reader.specs.Answers.{ReadTold}
 use Rattle.bits.specs.declared.Order.TheVariants.{Big}
-use Rattle.bits.specs.Refusals.{longest, done, or_else, first_refusal}
+use Rattle.bits.specs.Refusals.{longest, done, or_else, first_refusal, LengthTold}
 use Rattle.bits.proofs.RefusalLaws.{passed, test_held, at_most, if_done_lem}
 use Rattle.packing.specs.declared.State.{State}
 use Rattle.packing.specs.Packing.{Belongs, put, put_out}
@@ -23,15 +24,13 @@ use Rattle.writer.proofs.WriteLaws.{Stored, put_stored}
 use Rattle.record.specs.declared.Record.{Record}
 use Rattle.record.specs.Record.{fits, record_bits}
 use Rattle.record.proofs.FitLaws.{fits-true}
-use Rattle.strip.specs.declared.RecordRead.{RecordRead}
-use Rattle.strip.specs.declared.Packed.{Packed}
 use Rattle.strip.specs.Bits.{bits_of}
 use Rattle.strip.specs.Strip.{all_numbers, records_in, all_fit, strip_length, strip_bytes, count_of, records_of, tail_good}
 use Rattle.strip.specs.Answers.{pack_refusal, pack_of, pack_out, read_refusal, read_of, strip_refusal, strip_of, packed_out, list_refusal, list_of, list_out}
 use Rattle.strip.proofs.BitsLaws.{bits-lt}
 
 -- an answer of two parts
-abbrev pub packed : ℕ → ℕ → Packed
+abbrev pub packed : ℕ → ℕ → LengthTold
 packed e n = record { refusal = e; length = n }
 
 -- a record that is packed fits, and has room
@@ -56,7 +55,7 @@ record_gone s c z = let (h, l) = read_granted s c z in gone_own Big s c h (omega
 
 pub record_belongs : (s : List ℕ) (c : Cursor) → read_refusal s c ≡ done → cursor_refusal Big s (read_of s c).cursor ≡ done
 unfolding read_of
-record_belongs s c z = subst (λ (r : RecordRead). cursor_refusal Big s r.cursor ≡ done) (if_done_lem refl _ _ z) (own_done (record_gone s c z))
+record_belongs s c z = subst (λ (r : ReadTold Record). cursor_refusal Big s r.cursor ≡ done) (if_done_lem refl _ _ z) (own_done (record_gone s c z))
 
 -- records that are packed fit, their numbers are there, and the strip has room
 pub strip_passed : (ns : List ℕ) (n len : ℕ) → strip_refusal ns n len ≡ done → (6 * n ≤ length ns) × (strip_length n ≤ len) × (len ≤ longest) × (all_fit (records_in n ns) ≡ true)

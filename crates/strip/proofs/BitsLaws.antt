@@ -1,7 +1,9 @@
 -- Laws of the bits of a record: how they are put together, and where they are found again.
 use mathlib.Core.Path.{◌≡◌, sym, ap, ◌∙◌}
 use Prim.Native.Nat.{ℕ, ◌+◌, ◌*◌, ◌/◌, ◌%◌, ◌^◌, ◌<◌}
+use native.Mathlib.Nat.{mod-lt}
 use native.Mathlib.Omega.{arith}
+use lib.Pow.{pow_pos}
 use mathlib.Core.List.{List, [], ◌∷◌}
 use Rattle.bits.specs.declared.Order.TheVariants.{Big}
 use Rattle.bits.specs.Field.{join, field}
@@ -9,9 +11,10 @@ use Rattle.bits.specs.Word.{first, rest}
 use Rattle.bits.proofs.JoinLaws.{join-lt}
 use Rattle.bits.proofs.FieldLaws.{field_lt, field_split, field-first, field-rest, head_is, tail_is}
 use Rattle.bits.specs.Signed.{signed, pattern}
-use Rattle.sign.proofs.SignedLaws.{pattern_lt, pattern-signed, signed-pattern}
+use Rattle.sign.proofs.SignedLaws.{signed-fits, pattern_lt, pattern-signed, signed-pattern}
 use Rattle.record.specs.declared.Record.{Record}
-use Rattle.record.specs.Record.{Fits, record_bits}
+use Rattle.record.specs.declared.inner.Numbers.{Numbers}
+use Rattle.record.specs.Record.{Fits, named, record_bits}
 use Rattle.strip.specs.Bits.{bits_of, record_at}
 use Rattle.strip.specs.Strip.{numbers_of}
 
@@ -52,6 +55,18 @@ record_in_lem s p star date rest =
     let error = ap (λ (n : ℕ). n / 2 ^ 4 % 2 ^ 10) rest ∙ error_in s p in
     let filter = ap (λ (n : ℕ). n % 2 ^ 4) rest ∙ filter_in s p in
     λ i. record { star = star i; date = date i; limit = limit i; magnitude = magnitude i; error = error i; filter = filter i }
+
+-- numbers out of them name it
+abbrev pub parts_of : ℕ → ℕ → ℕ → Numbers
+parts_of star date rest = record { star = star; date = date; limit = rest / 2 ^ 30; magnitude = pattern 64 (signed 16 (rest / 2 ^ 14 % 2 ^ 16)); error = rest / 2 ^ 4 % 2 ^ 10; filter = rest % 2 ^ 4 }
+
+pub named_in :
+    (s : List ℕ) (p : ℕ) {star date rest : ℕ} {six : Numbers} → star ≡ field Big s p 20 → date ≡ field Big s (p + 20) 38 → rest ≡ field Big s (p + 58) 31 →
+    six ≡ parts_of star date rest → named six ≡ record_at s p
+named_in s p {rest} e₁ e₂ e₃ six =
+    let small = signed-fits 15 (rest / 2 ^ 14 % 2 ^ 16) (mod-lt _ (pow_pos 16)) in
+    let m : signed 64 (pattern 64 (signed 16 (rest / 2 ^ 14 % 2 ^ 16))) ≡ signed 16 (rest / 2 ^ 14 % 2 ^ 16) = signed-pattern 63 _ (omega (arith, small)) in
+    ap named six ∙ rw m (record_in_lem s p e₁ e₂ e₃)
 
 -- its numbers, as they are stored
 pub numbers_in :

@@ -15,7 +15,7 @@ use Rattle.packing.specs.Packing.{put, put_out}
 use Rattle.packing.proofs.BelongsLaws.{belongs_refusal}
 use Rattle.reader.specs.declared.Cursor.{Cursor}
 use Rattle.reader.specs.Cursor.{place, bits_left, gone_to, cursor_refusal}
-use Rattle.reader.specs.Answers.{new_of}
+use Rattle.reader.specs.Answers.{new_of, ReadTold}
 use Rattle.reader.proofs.CursorLaws.{left_stop, refusal_own, own_done, gone_place, gone_stop}
 use Rattle.reader.proofs.ReadLaws.{fresh_belongs, fresh_place, fresh_left}
 use Rattle.writer.specs.declared.Writer.{Writer}
@@ -24,7 +24,6 @@ use Rattle.writer.specs.Answers as W
 use Rattle.record.specs.declared.Record.{Record}
 use Rattle.record.specs.Record.{record_bits}
 use Rattle.record.proofs.FitLaws.{true-fits}
-use Rattle.strip.specs.declared.RecordRead.{RecordRead}
 use Rattle.strip.specs.Bits.{bits_of, record_at}
 use Rattle.strip.specs.Strip.{strip_length, strip_bytes, count_of}
 use Rattle.strip.specs.Answers.{pack_refusal, pack_of, pack_out, read_refusal, read_of}
@@ -97,12 +96,12 @@ module _ (s : List ℕ) where
       unfolding read_refusal
       next_reads = all_pass _ (g.belongs, rw (le-ltb _ _ next_there))
 
-      next_answer : read_of s c ≡ record { refusal = done; found = record_at s (place c); cursor = gone_to Big s c (place c + record_bits) }
+      next_answer : read_of s c ≡ record { refusal = done; value = record_at s (place c); cursor = gone_to Big s c (place c + record_bits) }
       unfolding read_of
       next_answer = sym (if_done_lem refl _ _ next_reads)
 
-      pub read_found : ((read_of s c).refusal ≡ done) × ((read_of s c).found ≡ record_at s (record_bits * i))
-      read_found = (ap (λ (r : RecordRead). r.refusal) next_answer, ap (λ (r : RecordRead). r.found) next_answer ∙ ap (record_at s) g.here)
+      pub read_found : ((read_of s c).refusal ≡ done) × ((read_of s c).value ≡ record_at s (record_bits * i))
+      read_found = (ap (λ (r : ReadTold Record). r.refusal) next_answer, ap (λ (r : ReadTold Record). r.value) next_answer ∙ ap (record_at s) g.here)
 
       pub behind_more : Behind s (suc i) (read_of s c).cursor
       behind_more =
@@ -111,7 +110,7 @@ module _ (s : List ℕ) where
           let d : Cursor = gone_to Big s c p in
           let o = record_gone s c next_reads in
           let at : place d ≡ p = gone_place Big s c p in
-          subst (Behind s (suc i)) (sym (ap (λ (r : RecordRead). r.cursor) next_answer))
+          subst (Behind s (suc i)) (sym (ap (λ (r : ReadTold Record). r.cursor) next_answer))
           (record {
             belongs = own_done o;
             here = omega (arith, at, g.here);

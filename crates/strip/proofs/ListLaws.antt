@@ -3,7 +3,6 @@ use mathlib.Core.Path.{◌≡◌, refl, sym, ap, ap₂, ◌∙◌}
 use mathlib.Core.Bool.{Bool, true, cond, ◌&&◌}
 use mathlib.Core.List.{List, [], ◌∷◌, ◌++◌}
 use Prim.Native.Nat.{ℕ, zero, suc, ◌+◌, ◌-◌, ◌*◌, ◌/◌, ◌^◌, ◌<◌, ◌≤◌, min}
-use native.Mathlib.Nat.{add-zero}
 use native.Mathlib.Numerals.{unary_clauses}
 use native.Mathlib.Omega.{arith}
 use lib.Dec.{ltb}
@@ -16,33 +15,26 @@ use Rattle.bits.proofs.TestLaws.{by_test}
 use Rattle.bits.proofs.StoreLaws.{sets-append}
 use Rattle.sign.proofs.SignedLaws.{pattern-signed, signed-pattern}
 use Rattle.record.specs.declared.Record.{Record}
-use Rattle.record.specs.Record.{fits, record_of, record_bits}
+use Rattle.record.specs.Record.{fits, record_bits}
 use Rattle.strip.specs.Bits.{record_at}
 use Rattle.strip.specs.Strip.{numbers_of, all_numbers, record_in, records_in, all_fit, records_from}
 use Rattle.strip.proofs.FitLaws.{all_fit_parts, with_magnitude}
-
--- the record of the six numbers from `at` on
-abbrev pub record_from : List ℕ → ℕ → Record
-record_from ns at = record_of (get_or ns at 0) (get_or ns (at + 1) 0) (get_or ns (at + 2) 0) (get_or ns (at + 3) 0) (get_or ns (at + 4) 0) (get_or ns (at + 5) 0)
-
-record_from_lem : (ns : List ℕ) (at : ℕ) → record_in (drop at ns) ≡ record_from ns at
-record_from_lem ns at = simp (get_or-drop, add-zero)
 
 -- ---- records one after the other
 
 -- the first of those still to come after i, whose numbers start at `at`
 module _ (ns : List ℕ) (n i at : ℕ) (more : i < n) (there : at + 6 * (n - i) ≤ length ns) where
-  pub next_record : records_in (n - i) (drop at ns) ≡ record_from ns at ∷ records_in (n - (i + 1)) (drop (at + 6) ns)
+  pub next_record : records_in (n - i) (drop at ns) ≡ record_in (drop at ns) ∷ records_in (n - (i + 1)) (drop (at + 6) ns)
   unfolding records_in
   next_record =
       let e : n - i ≡ suc (n - (i + 1)) = omega arith in
       let l : 6 ≤ length (drop at ns) = omega (arith, length-drop at ns) in
       ap (λ (k : ℕ). records_in k (drop at ns)) e
       ∙ ap (λ (t : Bool). cond t [] (record_in (drop at ns) ∷ records_in (n - (i + 1)) (drop 6 (drop at ns)))) (le-ltb _ _ l)
-      ∙ ap₂ (λ (r : Record) (l : List ℕ). r ∷ records_in (n - (i + 1)) l) (record_from_lem ns at) (drop-drop 6 at ns)
+      ∙ ap (λ (l : List ℕ). record_in (drop at ns) ∷ records_in (n - (i + 1)) l) (drop-drop 6 at ns)
 
   -- they fit if it does and the others do
-  pub next_fits : all_fit (records_in (n - i) (drop at ns)) ≡ (fits (record_from ns at) && all_fit (records_in (n - (i + 1)) (drop (at + 6) ns)))
+  pub next_fits : all_fit (records_in (n - i) (drop at ns)) ≡ (fits (record_in (drop at ns)) && all_fit (records_in (n - (i + 1)) (drop (at + 6) ns)))
   unfolding all_fit
   next_fits = ap all_fit next_record
 

@@ -14,7 +14,8 @@ use Rattle.bits.proofs.JoinLaws.{join-lt, join_assoc, none_join}
 use Rattle.packing.specs.declared.State.{State}
 use Rattle.packing.specs.Packing.{bits_written, Belongs, bytes_of, put, put_out}
 use Rattle.packing.proofs.PutLaws.{put-length, put_written, put_next, put_out_is, put-put_out}
-use Rattle.writer.specs.Writer.{writer_with, padding}
+use Rattle.writer.specs.declared.Writer.{Writer}
+use Rattle.writer.specs.Writer.{state_in, writer_with, padding}
 use Rattle.record.specs.declared.Record.{Record}
 use Rattle.record.specs.Record.{Fits, record_bits}
 use Rattle.strip.specs.Bits.{bits_of}
@@ -105,3 +106,11 @@ module _ (rs : List Record) (out₀ : List ℕ) where
           let size : c.written + (c.held + p) / 8 ≡ strip_length (length rs) = omega (arith, g.written, g.belongs.few) in
           let e : p ≡ record_bits * 0 + pad = omega (arith, full, size, g.written) in
           ap₂ (put_out Big out c) e (sym (none_join Big pad 0)) ∙ g.memory
+
+-- a writer with the state c belongs as it does, and a flush of it puts the zeros up to a byte
+module _ (out : List ℕ) {w : Writer} {c : State} (is : w ≡ writer_with c) where
+  pub writer_belongs : Belongs (length out) c → Belongs (length out) (state_in w)
+  writer_belongs h = rw is h
+
+  pub writer_flushed : {t : List ℕ} → t ≡ put_out Big out (state_in w) (padding w) 0 → t ≡ put_out Big out c (padding (writer_with c)) 0
+  writer_flushed p = p ∙ ap (λ (w : Writer). put_out Big out (state_in w) (padding w) 0) is

@@ -123,7 +123,7 @@ each_packed ns n s z =
 pub each_read : (s : List ℕ) → length s ≤ longest →
     ((i : ℕ) → i < count_of s →
     let r = read_of s (read_times i s (R.new_of s).cursor) in
-    (r.refusal ≡ done) × (r.found ≡ get_or (records_of s) i no_record))
+    (r.refusal ≡ done) × (r.value ≡ get_or (records_of s) i no_record))
     × ((read_of s (read_times (count_of s) s (R.new_of s).cursor)).refusal ≡ too_few)
 each_read s short = (
   λ i more.

@@ -1,22 +1,35 @@
 -- What packing and reading records and strips answer, and what lent memory holds afterwards, on every input.
-use Rattle.std.specs.Prelude.{ℕ, ◌+◌, ◌*◌, false, not, List, [], ◌∷◌, length, ltb}
+use Rattle.reader.specs.Answers.{ReadTold}
+use Rattle.std.specs.Prelude.{ℕ, Result, Ok, Err, ◌+◌, ◌*◌, Bool, false, not, List, [], ◌∷◌, length, ltb}
 use Rattle.std.proofs.lemmas.List.Edits.{sets}
 use Rattle.bits.specs.declared.Order.TheVariants.{Big}
-use Rattle.bits.specs.Refusals.{longest, done, too_long, too_large, no_room, too_few, ◌⟶◌, first_refusal, if_done}
+use Rattle.bits.specs.declared.Refusal.{Refusal}
+use Rattle.bits.specs.Refusals.{number, longest, done, too_long, too_large, no_room, too_few, ◌⟶◌, first_refusal, if_done, LengthTold}
 use Rattle.packing.specs.Packing.{put, put_out}
 use Rattle.reader.specs.declared.Cursor.{Cursor}
+use Rattle.reader.specs.declared.Read.{Read}
 use Rattle.reader.specs.Cursor.{place, bits_left, gone_to, cursor_refusal}
 use Rattle.writer.specs.declared.Writer.{Writer}
-use Rattle.writer.specs.declared.Wrote.{Wrote}
 use Rattle.writer.specs.Writer.{state_in, writer_refusal, room_refusal}
-use Rattle.writer.specs.Answers.{wrote}
+use Rattle.writer.specs.Answers.{Wrote, wrote}
 use Rattle.record.specs.declared.Record.{Record}
 use Rattle.record.specs.Record.{fits, no_record, record_bits}
-use Rattle.strip.specs.declared.RecordRead.{RecordRead}
-use Rattle.strip.specs.declared.Packed.{Packed}
 use Rattle.strip.specs.declared.StripRead.{StripRead}
 use Rattle.strip.specs.Bits.{bits_of, record_at}
 use Rattle.strip.specs.Strip.{records_in, all_fit, all_numbers, strip_length, strip_bytes, count_of, records_of, tail_good}
+
+-- ---- what is told: the number of a refusal or done, and what there is with it
+
+-- of a strip that is read: how many records there are, and whether its tail is good
+pub record StripTold : Type 0 where
+  pub refusal : ℕ
+  pub count : ℕ
+  pub tail_good : Bool
+
+-- the outcome of reading a strip
+abbrev pub strip_told : Result StripRead Refusal → StripTold
+strip_told (Ok r) = record { refusal = done; count = r.count; tail_good = r.tail_good }
+strip_told (Err e) = record { refusal = number e; count = 0; tail_good = false }
 
 -- ---- one record
 
@@ -40,11 +53,11 @@ unfoldable pub read_refusal : List ℕ → Cursor → ℕ
 read_refusal s c = first_refusal (cursor_refusal Big s c ∷ ltb (bits_left s c) record_bits ⟶ too_few ∷ [])
 
 -- the record at the place, and the cursor behind it with the fewest bits held
-unfoldable pub read_of : List ℕ → Cursor → RecordRead
+unfoldable pub read_of : List ℕ → Cursor → ReadTold Record
 read_of s c =
     if_done (read_refusal s c)
-    (record { refusal = done; found = record_at s (place c); cursor = gone_to Big s c (place c + record_bits) })
-    (record { refusal = read_refusal s c; found = no_record; cursor = c })
+    (record { refusal = done; value = record_at s (place c); cursor = gone_to Big s c (place c + record_bits) })
+    (record { refusal = read_refusal s c; value = no_record; cursor = c })
 
 -- ---- whole strips
 
@@ -58,7 +71,7 @@ strip_refusal ns n len =
     ∷ ltb len (strip_length n) ⟶ no_room
     ∷ [])
 
-unfoldable pub strip_of : List ℕ → ℕ → ℕ → Packed
+unfoldable pub strip_of : List ℕ → ℕ → ℕ → LengthTold
 strip_of ns n len =
     record {
       refusal = strip_refusal ns n len;
@@ -73,7 +86,7 @@ packed_out ns n s = if_done (strip_refusal ns n (length s)) (sets s 0 (strip_byt
 unfoldable pub list_refusal : List ℕ → ℕ → ℕ
 list_refusal s room = first_refusal (ltb longest (length s) ⟶ too_long ∷ ltb room (6 * count_of s) ⟶ no_room ∷ [])
 
-unfoldable pub list_of : List ℕ → ℕ → StripRead
+unfoldable pub list_of : List ℕ → ℕ → StripTold
 list_of s room =
     if_done (list_refusal s room)
     (record { refusal = done; count = count_of s; tail_good = tail_good s })

@@ -1,69 +1,59 @@
 // Records and strips where the tests are made, for proved callers.
-ghost use Rattle.std.specs.Prelude.{◌≡◌, true, [], ◌∷◌, ◌+◌, ◌*◌, ◌/◌, ◌%◌, ◌^◌, ◌<◌, ◌≤◌, length};
+ghost use Rattle.std.specs.Prelude.{◌≡◌, true, [], ◌∷◌, ◌+◌, ◌*◌, ◌/◌, ◌%◌, ◌^◌, ◌<◌, ◌≤◌, length, drop};
 ghost use Rattle.std.proofs.lemmas.List.Edits.{sets};
-ghost use Rattle.bits.specs.Refusals.{longest};
+ghost use Rattle.bits.specs.Refusals.{longest, number_of};
 ghost use Rattle.bits.specs.Signed.{signed, pattern};
 ghost use Rattle.packing.specs.Packing.{Belongs, bits_written, put, put_out};
-ghost use Rattle.record.specs.Record.{fits, record_bits};
+ghost use Rattle.record.specs.Record.{fits, named, InFields, record_bits};
 ghost use Rattle.strip.specs.Bits.{bits_of, record_at};
-ghost use Rattle.strip.specs.Strip.{numbers_of, records_in, all_fit, all_numbers, strip_length, strip_bytes, records_from, tail_good as tailGood_of};
+ghost use Rattle.strip.specs.Strip.{numbers_of, record_in, records_in, all_fit, all_numbers, strip_length, strip_bytes, records_from, tail_good as tailGood_of};
 ghost use Rattle.strip.specs.Answers.{pack_refusal, read_refusal, strip_refusal, list_refusal};
 
-use bits::{Order, refusals};
+use bits::{LONGEST, Order, Refusal};
 use packing::State;
 use reader::Cursor;
+use record::inner::Numbers;
 use record::{RECORD_BITS, Record};
 use writer::Writer;
 
 // The bits of a record's last four fields.
 const LAST_FOUR: u32 = 31;
 
+// The state in which nothing is written yet.
+pub const START: State = State {
+    written: 0,
+    held: 0,
+    number: 0,
+};
+
 // ---- one record
 
-// The refusal number of packing a record.
-pub fn pack_refusal(len: usize, w: Writer, found: Record) -> u32
-    ensures { result ≡ pack_refusal len w found }
+// Tests the packing of a record: 1 and 2, then 4 and 8.
+pub fn check_pack(len: usize, w: Writer, found: Record) -> Result<(), Refusal>
+    ensures { number_of result ≡ pack_refusal len w found }
 {
-    let refusal = packing::inner::refusal(len, writer::inner::state_in(w));
-    if refusal != refusals::DONE {
-        return refusal;
-    }
+    packing::inner::check(len, writer::inner::state_in(w))?;
     if record::inner::fits(found) {
-        return writer::inner::room_refusal(len, w, RECORD_BITS);
+        return writer::inner::check_room(len, w, RECORD_BITS);
     }
-    refusals::TOO_LARGE
+    Err(Refusal::TooLarge)
 }
 
 // The six numbers as one of 89 bits behind those written: 56 bits, then 33.
-fn put_six(
-    out: &mut [u8],
-    c: State,
-    star: u64,
-    date: u64,
-    limit: u64,
-    magnitude: u64,
-    error: u64,
-    filter: u64,
-) -> State
-    requires { Belongs (length out.old) c × (bits_written c + record_bits ≤ 8 * length out.old) × (star < 2 ^ 20) × (date < 2 ^ 38) × (limit < 2) × (magnitude < 2 ^ 16) × (error < 2 ^ 10) × (filter < 2 ^ 4) }
-    ensures answer { result ≡ put Order.Big c record_bits (bits_of (record { star = star; date = date; limit = limit; magnitude = signed 16 magnitude; error = error; filter = filter })) }
-    ensures memory { out.new ≡ put_out Order.Big out.old c record_bits (bits_of (record { star = star; date = date; limit = limit; magnitude = signed 16 magnitude; error = error; filter = filter })) }
+#[inline]
+fn put_six(out: &mut [u8], c: State, six: Numbers) -> State
+    requires { Belongs (length out.old) c × (bits_written c + record_bits ≤ 8 * length out.old) × InFields six }
+    ensures answer { result ≡ put Order.Big c record_bits (bits_of (named six)) }
+    ensures memory { out.new ≡ put_out Order.Big out.old c record_bits (bits_of (named six)) }
 {
-    let high = star * 0x10_0000_0000 + date / 4;
-    let low = date % 4 * 0x8000_0000
-        + limit * 0x4000_0000
-        + magnitude * 0x4000
-        + error * 16
-        + filter;
+    let high = six.star * 0x10_0000_0000 + six.date / 4;
+    let low = six.date % 4 * 0x8000_0000
+        + six.limit * 0x4000_0000
+        + six.magnitude % 0x1_0000 * 0x4000
+        + six.error * 16
+        + six.filter;
     let middle = packing::inner::put_bits(Order::Big, out, c, 56, high);
     packing::inner::put_bits(Order::Big, out, middle, 33, low)
-}
-
-// The 16 bits of a magnitude.
-pub fn magnitude_bits(magnitude: i16) -> u64
-    ensures { result ≡ pattern 16 magnitude }
-{
-    record::inner::magnitude_number(magnitude) % 0x1_0000
 }
 
 // A record behind what was written.
@@ -72,30 +62,18 @@ pub fn put_record(out: &mut [u8], c: State, found: Record) -> State
     ensures answer { result ≡ put Order.Big c record_bits (bits_of found) }
     ensures memory { out.new ≡ put_out Order.Big out.old c record_bits (bits_of found) }
 {
-    put_six(
-        out,
-        c,
-        found.star as u64,
-        found.date,
-        found.limit as u64,
-        magnitude_bits(found.magnitude),
-        found.error as u64,
-        found.filter as u64,
-    )
+    put_six(out, c, Numbers::from(found))
 }
 
-// The refusal number of reading a record.
-pub fn read_refusal(src: &[u8], c: Cursor) -> u32
-    ensures { result ≡ read_refusal src.now c }
+// Tests the reading of a record: 1 and 2, then 9.
+pub fn check_read(src: &[u8], c: Cursor) -> Result<(), Refusal>
+    ensures { number_of result ≡ read_refusal src.now c }
 {
-    let refusal = reader::inner::refusal(Order::Big, src, c);
-    if refusal != refusals::DONE {
-        return refusal;
-    }
+    reader::inner::check(Order::Big, src, c)?;
     if reader::inner::bits_left(src, c) < RECORD_BITS {
-        return refusals::TOO_FEW;
+        return Err(Refusal::TooFew);
     }
-    refusals::DONE
+    Ok(())
 }
 
 // The record at a place: by windows of 64 bits, the last four fields out of one.
@@ -118,52 +96,50 @@ pub fn record_at(src: &[u8], place: usize) -> Record
 
 // ---- whole strips
 
+// The six numbers of a list from a place on.
+#[inline]
+fn numbers_at(numbers: &[u64], at: usize) -> Numbers
+    requires { at + 6 ≤ length numbers.now }
+    ensures { named result ≡ record_in (drop at numbers.now) }
+{
+    Numbers {
+        star: numbers[at],
+        date: numbers[at + 1],
+        limit: numbers[at + 2],
+        magnitude: numbers[at + 3],
+        error: numbers[at + 4],
+        filter: numbers[at + 5],
+    }
+}
+
 // Whether the first n records of a list fit.
 fn all_fit(numbers: &[u64], n: usize) -> bool
     requires { 6 * n ≤ length numbers.now }
     ensures { result ≡ all_fit (records_in n numbers.now) }
 {
-    let mut i = 0;
-    let mut at = 0;
-    while i < n {
-        if record::inner::six_fit(
-            numbers[at],
-            numbers[at + 1],
-            numbers[at + 2],
-            numbers[at + 3],
-            numbers[at + 4],
-            numbers[at + 5],
-        ) {
-            i += 1;
-            at += 6;
-        } else {
+    for i in 0..n {
+        if !numbers_at(numbers, 6 * i).fit() {
             return false;
         }
     }
     true
 }
 
-// The refusal number of packing n records.
-pub fn strip_refusal(numbers: &[u64], n: usize, len: usize) -> u32
-    ensures { result ≡ strip_refusal numbers.now n len }
+// Tests the packing of n records: 1, then 4 and 8.
+pub fn check_strip(numbers: &[u64], n: usize, len: usize) -> Result<(), Refusal>
+    ensures { number_of result ≡ strip_refusal numbers.now n len }
 {
-    if refusals::LONGEST < len {
-        return refusals::TOO_LONG;
+    if LONGEST < len {
+        return Err(Refusal::TooLong);
     }
-    let mut there = numbers.len() / 6;
-    if n < there {
-        there = n;
+    let there = n.min(numbers.len() / 6);
+    if !all_fit(numbers, there) {
+        return Err(Refusal::TooLarge);
     }
-    if all_fit(numbers, there) {
-        if there < n {
-            return refusals::NO_ROOM;
-        }
-        if 8 * len / RECORD_BITS < n {
-            return refusals::NO_ROOM;
-        }
-        return refusals::DONE;
+    if there < n || 8 * len / RECORD_BITS < n {
+        return Err(Refusal::NoRoom);
     }
-    refusals::TOO_LARGE
+    Ok(())
 }
 
 // Packs n records and flushes; the answer is the strip's length.
@@ -172,42 +148,40 @@ pub fn put_strip(numbers: &[u64], n: usize, out: &mut [u8]) -> usize
     ensures answer { result ≡ strip_length n }
     ensures memory { out.new ≡ sets out.old 0 (strip_bytes (records_in n numbers.now)) }
 {
-    let mut c = State {
-        written: 0,
-        held: 0,
-        number: 0,
-    };
-    let mut i = 0;
-    let mut at = 0;
-    while i < n {
-        c = put_six(
-            out,
-            c,
-            numbers[at],
-            numbers[at + 1],
-            numbers[at + 2],
-            numbers[at + 3] % 0x1_0000,
-            numbers[at + 4],
-            numbers[at + 5],
-        );
-        i += 1;
-        at += 6;
+    let mut c = START;
+    for i in 0..n {
+        c = put_six(out, c, numbers_at(numbers, 6 * i));
     }
     let last = writer::inner::flush(Order::Big, out, writer::inner::writer_with(c));
     last.written
 }
 
-// The refusal number of reading a strip into a list of `room` numbers.
-pub fn list_refusal(src: &[u8], room: usize) -> u32
-    ensures { result ≡ list_refusal src.now room }
+// Tests the reading of a strip into a list of `room` numbers: 1, then 8.
+pub fn check_list(src: &[u8], room: usize) -> Result<(), Refusal>
+    ensures { number_of result ≡ list_refusal src.now room }
 {
-    if refusals::LONGEST < src.len() {
-        return refusals::TOO_LONG;
+    if LONGEST < src.len() {
+        return Err(Refusal::TooLong);
     }
     if room < 6 * (8 * src.len() / RECORD_BITS) {
-        return refusals::NO_ROOM;
+        return Err(Refusal::NoRoom);
     }
-    refusals::DONE
+    Ok(())
+}
+
+// The six numbers of a record, the last four out of one of 31 bits.
+#[inline]
+pub fn numbers_in(star: u64, date: u64, rest: u64) -> Numbers
+    ensures { result ≡ (record { star = star; date = date; limit = rest / 2 ^ 30; magnitude = pattern 64 (signed 16 (rest / 2 ^ 14 % 2 ^ 16)); error = rest / 2 ^ 4 % 2 ^ 10; filter = rest % 2 ^ 4 }) }
+{
+    Numbers {
+        star,
+        date,
+        limit: rest / 0x4000_0000,
+        magnitude: sign::inner::widened(rest / 0x4000 % 0x1_0000, 16),
+        error: rest / 16 % 0x400,
+        filter: rest % 16,
+    }
 }
 
 // Stores a record's six numbers, the last four out of one of 31 bits.
@@ -215,12 +189,13 @@ fn put_parts(numbers: &mut [u64], at: usize, star: u64, date: u64, rest: u64)
     requires { at + 6 ≤ length numbers.old }
     ensures { numbers.new ≡ sets numbers.old at (star ∷ date ∷ rest / 2 ^ 30 ∷ pattern 64 (signed 16 (rest / 2 ^ 14 % 2 ^ 16)) ∷ rest / 2 ^ 4 % 2 ^ 10 ∷ rest % 2 ^ 4 ∷ []) }
 {
-    numbers[at] = star;
-    numbers[at + 1] = date;
-    numbers[at + 2] = rest / 0x4000_0000;
-    numbers[at + 3] = sign::inner::widened(rest / 0x4000 % 0x1_0000, 16);
-    numbers[at + 4] = rest / 16 % 0x400;
-    numbers[at + 5] = rest % 16;
+    let six = numbers_in(star, date, rest);
+    numbers[at] = six.star;
+    numbers[at + 1] = six.date;
+    numbers[at + 2] = six.limit;
+    numbers[at + 3] = six.magnitude;
+    numbers[at + 4] = six.error;
+    numbers[at + 5] = six.filter;
 }
 
 // Stores the six numbers of the record at a place: if 64 bits are there from its last 31 on, no load tests for the end.
@@ -246,14 +221,8 @@ pub fn put_numbers(src: &[u8], count: usize, numbers: &mut [u64])
     requires { (record_bits * count ≤ 8 * length src.now) × (length src.now ≤ longest) × (6 * count ≤ length numbers.old) }
     ensures { numbers.new ≡ sets numbers.old 0 (all_numbers (records_from src.now 0 count)) }
 {
-    let mut i = 0;
-    let mut place = 0;
-    let mut at = 0;
-    while i < count {
-        put_numbers_at(src, place, numbers, at);
-        i += 1;
-        place += RECORD_BITS;
-        at += 6;
+    for i in 0..count {
+        put_numbers_at(src, RECORD_BITS * i, numbers, 6 * i);
     }
 }
 
@@ -263,8 +232,5 @@ pub fn tail_good(src: &[u8]) -> bool
     ensures { result ≡ tailGood_of src.now }
 {
     let bits = 8 * src.len() % RECORD_BITS;
-    if bits < 8 {
-        return words::inner::short_field(Order::Big, src, 8 * src.len() - bits, bits as u32) == 0;
-    }
-    false
+    bits < 8 && words::inner::short_field(Order::Big, src, 8 * src.len() - bits, bits as u32) == 0
 }

@@ -1,29 +1,22 @@
 // A strip on standard input, as text on standard output: all that is written is the list job's answer to all that was read.
 #![tactic(auto)]
 
-ghost use Rattle.std.specs.Prelude.{◌≡◌, ◌<◌, length, take};
-ghost use Rattle.jobs.specs.Jobs.{most_taken, list_answer};
+ghost use Rattle.jobs.specs.Jobs.{list_answer};
 
-use programs::inner::Input;
+use programs::inner::Job;
 
-fn main(rt: HostRuntime) {
-    let mut space = [0u8; 65537];
-    let input = programs::inner::read_input(&mut rt.stdin(), &mut space);
-    if input.failed {
-        programs::inner::tell_unread(&rt);
-        return;
+struct List;
+
+impl Job for List {
+    ghost answer = { list_answer };
+
+    ghost room = { 241530 };
+
+    fn answer(input: &[u8], out: &mut [u8]) -> usize {
+        jobs::list_answer(input, out).unwrap()
     }
-    let n = input.count;
-    let mut out = [0u8; 262144];
-    let answered = jobs::list_answer(&space[..n], &mut out);
-    let length = answered.length;
-    write_answer(&rt, &space, input, &out[..length]);
 }
 
-// Writes the answer to what was read into a space that holds more than a program takes.
-fn write_answer(rt: &(impl Print + Eprint), space: &[u8], input: Input, answer: &[u8])
-    requires most_taken_in_bounds { most_taken < length space.now }
-    requires answer_value { answer.now ≡ list_answer (take input.count space.now) }
-{
-    programs::inner::write_output(rt, answer);
+fn main(rt: HostRuntime) {
+    programs::inner::run::<List>(&mut rt.stdin(), &rt, &mut [0u8; 65537], &mut [0u8; 262144]);
 }

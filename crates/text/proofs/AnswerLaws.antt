@@ -1,30 +1,31 @@
 -- Laws of answers: what a refusal number says, and what is answered and left with it.
 use Prim.Native.Nat.{ℕ, ◌*◌, ◌/◌, ◌<◌, ◌≤◌}
 use mathlib.Core.Path.{◌≡◌, sym, ap, ◌∙◌}
-use mathlib.Core.Bool.{true, false, cond}
+use mathlib.Core.Bool.{true, false}
 use mathlib.Core.List.{List}
 use lib.ListN.{length}
 use lib.Seq.{sets}
-use lib.Dec.{eqb}
 use native.Mathlib.Omega.{arith}
 use borrow.Author.Tests.{lt-ltb, le-ltb, ne_eqb}
-use Rattle.bits.specs.Refusals.{longest, done, too_long, bad_line, no_room, or_else, first_refusal}
-use Rattle.bits.proofs.RefusalLaws.{passed, test_held, at_most}
+use Rattle.std.specs.Prelude.{Result, Err}
+use Rattle.std.specs.Result.{IsErrAnd}
+use Rattle.std.proofs.lemmas.Result.{err_from_is_err_and}
+use Rattle.bits.specs.Refusals.{longest, done, too_long, bad_line, no_room, or_else, first_refusal, LengthTold}
+use Rattle.bits.proofs.RefusalLaws.{passed, test_held, at_most, number_ne}
 use Rattle.record.specs.declared.Record.{Record}
 use Rattle.record.specs.Record.{record_bits}
 use Rattle.strip.specs.Strip.{strip_length, strip_bytes}
-use Rattle.text.specs.declared.Listed.{Listed}
-use Rattle.text.specs.declared.Packed.{Packed}
-use Rattle.text.specs.declared.inner.Found.{Found}
+use Rattle.text.specs.declared.PackError.{PackError}
+use Rattle.text.specs.declared.PackError.TheVariants.{Refused, BadLine}
 use Rattle.text.specs.Text.{header, text_of, headed, Lines, body_of, bad_line_of}
-use Rattle.text.specs.Answers.{list_refusal, pack_refusal, pack_of, pack_out}
+use Rattle.text.specs.Answers.{Packed, Found, found_told, found_of, packed_told, list_refusal, pack_refusal, pack_of, pack_out}
 use Rattle.text.proofs.HeaderLaws.{headed_long}
 use Rattle.text.proofs.LinesLaws.{all_read_lem}
 
 -- ---- listing
 
 -- an answer of two parts
-abbrev pub listed : ℕ → ℕ → Listed
+abbrev pub listed : ℕ → ℕ → LengthTold
 listed e n = record { refusal = e; length = n }
 
 pub list_passed : (s : List ℕ) (len : ℕ) → list_refusal s len ≡ done → (length s ≤ longest) × (length (text_of s) ≤ len)
@@ -36,10 +37,6 @@ list_passed s len z = let (short, (_, room)) = passed _ z in (at_most _ _ _ shor
 -- a refusal with a line
 abbrev pub found : ℕ → ℕ → Found
 found e n = record { refusal = e; line = n }
-
--- what pack_refusal answers
-abbrev pub found_of : List ℕ → ℕ → Found
-found_of t len = found (pack_refusal t len) (cond (eqb (pack_refusal t len) bad_line) (bad_line_of t) 0)
 
 module _ (t : List ℕ) (len : ℕ) where
   pub long_text : longest < length t → found too_long 0 ≡ found_of t len
@@ -106,6 +103,16 @@ module _ (t out : List ℕ) {f : Found} (g : f ≡ found_of t (length out)) wher
       → (packed done n 0 ≡ pack_of t (length out)) × (last ≡ pack_out t out)
   unfolding pack_of pack_out
   pack_done h e k = rw (← refusal_is, h) (ap (λ (n : ℕ). packed done n 0) e, k)
+
+-- a `?` hands the error on as it is
+pub told_on : {A : Type 0} (r : Result A PackError) (e : PackError) → IsErrAnd r (λ x. x ≡ e) → r ≡ Err e
+told_on r e h = let (x, same, is) = err_from_is_err_and r h in same ∙ ap Err is
+
+-- what the tests refuse, packing refuses
+pub pack_error : (t out : List ℕ) (e : PackError) → found_told {A = ℕ} (Err e) ≡ found_of t (length out)
+    → (packed_told (Err e) ≡ pack_of t (length out)) × (out ≡ pack_out t out)
+pack_error t out (Refused e) g = pack_refused t out g (number_ne e)
+pack_error t out (BadLine n) g = pack_refused t out g (λ z. absurd (omega arith))
 
 -- a text whose lines are read as records, all good
 module _ (t out : List ℕ) (short : length t ≤ longest) (short-out : length out ≤ longest) (head : headed header t ≡ true) where

@@ -17,12 +17,11 @@ use Rattle.line.specs.Grammar.{Parts, spelled, Good}
 use Rattle.line.specs.Reading.{begins, first_of, behind, is_nil}
 use Rattle.line.proofs.ReadLaws.{begins_good, behind_shorter}
 use Rattle.line.proofs.SpelledLaws.{begins-spelled}
-use Rattle.text.specs.declared.inner.Found.{Found}
 use Rattle.text.specs.Text.{header, headed, Lines, more, stopped, lines_in, body_of, bad_line_of}
-use Rattle.text.specs.Answers.{pack_of}
+use Rattle.text.specs.Answers.{Found, found_of, pack_of}
 use Rattle.text.specs.Grammar.{all_spelled, all_meant, AllGood, and, none, FirstBad, no_header, bad_behind, GoodText}
 use Rattle.text.proofs.LinesLaws.{lines_bad}
-use Rattle.text.proofs.AnswerLaws.{found, found_of, other_header, bad_line_lem, no_room_lem, has_room}
+use Rattle.text.proofs.AnswerLaws.{found, other_header, bad_line_lem, no_room_lem, has_room}
 use Rattle.text.proofs.GrammarLaws.{headed-append, headed_is, body_append, before, lines_behind, good_many}
 
 -- ---- a text that begins with no good line

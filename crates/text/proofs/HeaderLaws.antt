@@ -1,14 +1,14 @@
--- Laws of the header and of `bad tail`: their bytes, whether a text starts with bytes, and bytes stored one by one.
-use Prim.Native.Nat.{ℕ, ◌+◌, ◌<◌, ◌≤◌}
-use mathlib.Core.Path.{◌≡◌, refl, ap, ◌∙◌}
-use mathlib.Core.Bool.{Bool, true, false, ◌&&◌, and-false}
+-- Laws of the header and of `bad tail`: their bytes, and whether a text starts with bytes.
+use Prim.Native.Nat.{ℕ, ◌≤◌}
+use mathlib.Core.Path.{◌≡◌, refl, sym, ap, ap₂, ◌∙◌}
+use mathlib.Core.Bool.{Bool, true, ◌&&◌}
 use mathlib.Core.List.{List, [], ◌∷◌}
-use lib.ListN.{length, get_or, drop, set}
-use lib.Seq.{sets, drop-cons}
+use lib.ListN.{length, take}
 use lib.Dec.{eqb}
-use native.Mathlib.Numerals.{add-one}
+use lib.Pointwise.{pointwise}
 use native.Mathlib.Omega.{arith}
-use Rattle.bits.proofs.TestLaws.{both}
+use borrow.Author.Tests.{eqb-true, eqb-false, eq-eqb, ne_eqb}
+use Rattle.bits.proofs.TestLaws.{both, by_test}
 use Rattle.digits.specs.Digits.{ascii}
 use Rattle.text.specs.Text.{header, bad_tail, headed}
 
@@ -43,26 +43,20 @@ length-bad_tail = ap length bad_tail_is
 
 -- ---- whether a text starts with bytes
 
--- from place i on
-pub headed_next : (h s : List ℕ) (i : ℕ) → i < length h → i < length s
-    → headed (drop i h) (drop i s) ≡ (eqb (get_or s i 0) (get_or h i 0) && headed (drop (i + 1) h) (drop (i + 1) s))
-unfolding headed
-headed_next h s i p q = rw (add-one, drop-cons h i 0, drop-cons s i 0)
+-- which of two bytes comes first is the same
+eqb-sym : (a b : ℕ) → eqb a b ≡ eqb b a
+eqb-sym a b =
+    by_test (eqb a b) (λ t. t ∙ sym (eq-eqb b a (sym (eqb-true a b t)))) (λ t. t ∙ sym (ne_eqb b a (λ e. eqb-false a b t (sym e))))
 
-pub headed_short : (h s : List ℕ) → length s < length h → headed h s ≡ false
+-- the library's test says the same
+pub starts_headed : (h s : List ℕ) → pointwise eqb h (take (length h) s) ≡ headed h s
 unfolding headed
-headed_short [] s l = absurd (omega arith)
-headed_short (a ∷ h) [] l = refl
-headed_short (a ∷ h) (b ∷ s) l = ap (λ (t : Bool). eqb b a && t) (headed_short h s (omega arith)) ∙ and-false (eqb b a)
+starts_headed [] s = refl
+starts_headed (a ∷ h) [] = refl
+starts_headed (a ∷ h) (b ∷ s) = ap₂ (λ (t u : Bool). t && u) (eqb-sym a b) (starts_headed h s)
 
 pub headed_long : (h s : List ℕ) → headed h s ≡ true → length h ≤ length s
 unfolding headed
 headed_long [] s e = omega arith
 headed_long (a ∷ h) [] e = absurd (let z : ◌≡◌ {A = ℕ} 0 1 = cc in omega arith)
 headed_long (a ∷ h) (b ∷ s) e = let l = headed_long h s (both {a = eqb b a} e).1 in omega arith
-
--- ---- bytes stored one by one
-
--- the next one, and those behind it
-pub store_next : (h l : List ℕ) (at i : ℕ) → i < length h → sets (set l at (get_or h i 0)) (at + 1) (drop (i + 1) h) ≡ sets l at (drop i h)
-store_next h l at i p = rw (add-one, add-one, drop-cons h i 0)

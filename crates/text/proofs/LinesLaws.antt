@@ -6,14 +6,18 @@ use mathlib.Core.List.{List, [], ◌∷◌}
 use lib.ListN.{length, drop, length-drop}
 use lib.Seq.{drop-length}
 use native.Mathlib.Omega.{arith}
+use Rattle.std.specs.Prelude.{Result, Ok, Err, Some, None}
+use Rattle.std.specs.Option.{is_some}
 use Rattle.bits.proofs.TestLaws.{by_test}
 use Rattle.record.specs.declared.Record.{Record}
 use Rattle.strip.specs.Strip.{all_fit}
-use Rattle.line.specs.Reading.{begins, first_of, behind, is_nil}
+use Rattle.line.specs.declared.inner.LineAt.{LineAt}
+use Rattle.line.specs.Reading.{begins, first_of, behind, is_nil, LineStands}
 use Rattle.line.proofs.ReadLaws.{behind_shorter}
 use Rattle.line.proofs.AnswerLaws.{some_left}
-use Rattle.text.specs.declared.inner.Counted.{Counted}
-use Rattle.text.specs.Text.{header, Lines, more, stopped, lines_in, lines_of, body_of}
+use Rattle.text.specs.declared.PackError.{PackError}
+use Rattle.text.specs.declared.PackError.TheVariants.{BadLine}
+use Rattle.text.specs.Text.{header, Lines, more, stopped, lines_in, lines_of, body_of, bad_line_of}
 use Rattle.text.proofs.HeaderLaws.{header_length, length-header}
 
 -- records, and no bad line
@@ -113,6 +117,14 @@ module _ (t : List ℕ) (at : ℕ) where
   pub from_end : at ≡ length t → lines_from t at ≡ stopped true
   from_end e = ap (lines_from t) e ∙ ap lines_of (drop-length t) ∙ lines_none 0
 
+-- whether a line is found at a place says whether one begins there
+pub line_there : {s : List ℕ} {at : ℕ} {r : LineAt} → LineStands s at r → is_some r.«record» ≡ begins (drop at s)
+line_there {s} {at} x = ap is_some x.names ∙ by (begins (drop at s))
+  where
+    by : (t : Bool) → is_some (cond t (Some (first_of (drop at s))) None) ≡ t
+    by true = refl
+    by false = refl
+
 -- ---- counted
 
 -- from `at` on, behind `count` good lines: what is left gives all there is
@@ -122,9 +134,27 @@ pub record Left (t : List ℕ) (at count : ℕ) : Type 0 where
   pub sum : count + length (lines_from t at).records ≡ length (body_of t).records
   pub good : (lines_from t at).good ≡ (body_of t).good
 
--- how many lines there are, and whether all are good
-abbrev pub counted : ℕ → Bool → Counted
-counted n b = record { count = n; good = b }
+-- what counting the lines tells: how many there are, or the number of the first bad one
+abbrev pub counted : List ℕ → Result ℕ PackError
+counted t = cond (body_of t).good (Ok (length (body_of t).records)) (Err (BadLine (bad_line_of t)))
+
+pub counted_all : (t : List ℕ) (n : ℕ) → Ok n ≡ counted t → ((body_of t).good ≡ true) × (n ≡ length (body_of t).records)
+counted_all t n = by (body_of t).good refl
+  where
+    by : (b : Bool) → (body_of t).good ≡ b
+        → ◌≡◌ {A = Result ℕ PackError} (Ok n) (cond b (Ok (length (body_of t).records)) (Err (BadLine (bad_line_of t))))
+        → ((body_of t).good ≡ true) × (n ≡ length (body_of t).records)
+    by true p e = (p, cc)
+    by false p e = absurd cc
+
+pub counted-bad : (t : List ℕ) (x : PackError) → Err x ≡ counted t → ((body_of t).good ≡ false) × (x ≡ BadLine (bad_line_of t))
+counted-bad t x = by (body_of t).good refl
+  where
+    by : (b : Bool) → (body_of t).good ≡ b
+        → ◌≡◌ {A = Result ℕ PackError} (Err x) (cond b (Ok (length (body_of t).records)) (Err (BadLine (bad_line_of t))))
+        → ((body_of t).good ≡ false) × (x ≡ BadLine (bad_line_of t))
+    by true p e = absurd cc
+    by false p e = (p, cc)
 
 pub left_start : (t : List ℕ) → length header ≤ length t → Left t header_length 0
 left_start t h =
@@ -133,23 +163,28 @@ left_start t h =
     record { within = omega (arith, h, length-header); few = omega arith; sum = omega arith; good = ap (λ (l : Lines). l.good) (sym e) }
 
 module _ (t : List ℕ) (at count : ℕ) (g : Left t at count) where
-  all_is : (l : Lines) → lines_from t at ≡ l → counted (count + length l.records) l.good ≡ counted (length (body_of t).records) (body_of t).good
-  all_is l e = ap (λ (x : Lines). counted (count + length x.records) x.good) (sym e) ∙ (λ i. counted (g.sum i) (g.good i))
-
   pub left_next : (next : ℕ) → at < length t → begins (drop at t) ≡ true → drop next t ≡ behind (drop at t) → at < next → next ≤ length t → Left t next (count + 1)
   left_next next h e f k w =
-      let a = all_is (more (first_of (drop at t)) (lines_from t next)) (from_next t at next h e f) in
-      let n : count + suc (length (lines_from t next).records) ≡ length (body_of t).records = ap (λ (x : Counted). x.count) a in
+      let a = from_next t at next h e f in
+      let n = ap (λ (x : Lines). length x.records) a in
       let m = g.few in
-      record { within = w; few = omega arith; sum = omega arith; good = ap (λ (x : Counted). x.good) a }
+      let all = g.sum in
+      record { within = w; few = omega arith; sum = omega arith; good = sym (ap (λ (x : Lines). x.good) a) ∙ g.good }
 
-  pub left_bad : at < length t → begins (drop at t) ≡ false → counted count false ≡ counted (length (body_of t).records) (body_of t).good
+  -- a bad line: those before it are all that are counted
+  pub left_bad : at < length t → begins (drop at t) ≡ false → ((body_of t).good ≡ false) × (count ≡ length (body_of t).records)
   left_bad h e =
-      let z : count ≡ count + length {A = Record} [] = omega arith in
-      ap (λ (n : ℕ). counted n false) z ∙ all_is (stopped false) (from_bad t at h e)
+      let a = from_bad t at h e in
+      let n = ap (λ (x : Lines). length x.records) a in
+      let all = g.sum in
+      (sym g.good ∙ ap (λ (x : Lines). x.good) a, omega arith)
 
-  pub left_end : length t ≤ at → counted count true ≡ counted (length (body_of t).records) (body_of t).good
+  pub left_end : length t ≤ at → Ok count ≡ counted t
   left_end h =
       let w = g.within in
-      let z : count ≡ count + length {A = Record} [] = omega arith in
-      ap (λ (n : ℕ). counted n true) z ∙ all_is (stopped true) (from_end t at (omega arith))
+      let a = from_end t at (omega arith) in
+      let n = ap (λ (x : Lines). length x.records) a in
+      let all = g.sum in
+      let good : (body_of t).good ≡ true = sym g.good ∙ ap (λ (x : Lines). x.good) a in
+      let count_is : count ≡ length (body_of t).records = omega arith in
+      rw good (ap (λ (k : ℕ). Ok k) count_is)

@@ -13,9 +13,8 @@ use Rattle.strip.specs.Strip.{all_fit, strip_length, strip_bytes, count_of, reco
 use Rattle.strip.proofs.PackedLaws.{records_fit}
 use Rattle.strip.proofs.StripLaws.{length_strip, strip_same}
 use Rattle.strip.proofs.Theorems.{strip_there_and_back}
-use Rattle.text.specs.declared.Packed.{Packed}
 use Rattle.text.specs.Text.{header, bad_tail, listed, text_of, headed, Lines, lines_of, body_of}
-use Rattle.text.specs.Answers.{pack_refusal, pack_of, pack_out}
+use Rattle.text.specs.Answers.{Packed, pack_refusal, pack_of, pack_out}
 use Rattle.text.specs.Grammar.{AllFive, GoodText}
 use Rattle.text.proofs.LinesLaws.{all_read_lem, body_fits}
 use Rattle.text.proofs.AnswerLaws.{packed, pack_tests, pack_read}

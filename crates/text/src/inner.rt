@@ -1,23 +1,19 @@
 // The parts of listing and packing whole texts, for proved callers.
-ghost use Rattle.std.specs.Prelude.{◌≡◌, true, cond, ◌+◌, ◌*◌, ◌≤◌, length, eqb};
+ghost use Rattle.std.specs.Prelude.{◌≡◌, true, cond, Result, Ok, Err, ◌+◌, ◌*◌, ◌≤◌, length};
 ghost use Rattle.std.proofs.lemmas.List.Edits.{sets};
-ghost use Rattle.bits.specs.Refusals.{longest, bad_line};
+ghost use Rattle.bits.specs.Refusals.{longest, number_of};
 ghost use Rattle.strip.specs.Strip.{strip_length, strip_bytes};
-ghost use Rattle.text.specs.Text.{header, bad_tail, text_of, headed, body_of, bad_line_of};
-ghost use Rattle.text.specs.Answers.{list_refusal, pack_refusal};
+ghost use Rattle.text.specs.Text.{header, text_of, headed, body_of, bad_line_of};
+ghost use Rattle.text.specs.Answers.{list_refusal, found_told, found_of};
 
-use bits::{Order, refusals};
-use packing::State;
+use crate::PackError;
+use bits::{LONGEST, Order, Refusal};
 use record::RECORD_BITS;
 
-// The header line and the last line of a strip whose tail is bad, and how many bytes they have.
-const HEADER_LENGTH: usize = 31;
+// The header line, and the last line of a strip whose tail is bad.
+const HEADER: &[u8] = b"star,date,limit,mag,err,filter\n";
 
-const HEADER: [u8; HEADER_LENGTH] = *b"star,date,limit,mag,err,filter\n";
-
-const BAD_TAIL_LENGTH: usize = 9;
-
-const BAD_TAIL: [u8; BAD_TAIL_LENGTH] = *b"bad tail\n";
+const BAD_TAIL: &[u8] = b"bad tail\n";
 
 // ---- listing
 
@@ -26,53 +22,48 @@ fn text_size(strip: &[u8]) -> usize
     requires { length strip.now ≤ longest }
     ensures { result ≡ length (text_of strip.now) }
 {
+    let mut size = HEADER.len();
     let count = 8 * strip.len() / RECORD_BITS;
-    let mut size = HEADER_LENGTH;
-    let mut i = 0;
-    let mut place = 0;
-    while i < count {
-        size += listing::inner::line_size(strip::inner::record_at(strip, place));
-        i += 1;
-        place += RECORD_BITS;
+    for i in 0..count {
+        size += listing::inner::line_size(strip::inner::record_at(strip, RECORD_BITS * i));
     }
     if strip::inner::tail_good(strip) {
         return size;
     }
-    size + BAD_TAIL_LENGTH
+    size + BAD_TAIL.len()
 }
 
 // No line has more bytes.
 const LONGEST_LINE: usize = 41;
 
-// The refusal number of listing into `len` bytes. Where there is room for the longest lines, none is looked at.
-pub fn list_refusal(strip: &[u8], len: usize) -> u32
-    ensures { result ≡ list_refusal strip.now len }
+// Whether listing into `len` bytes is refused. Where there is room for the longest lines, none is looked at.
+pub fn check_list(strip: &[u8], len: usize) -> Result<(), Refusal>
+    ensures { number_of result ≡ list_refusal strip.now len }
 {
-    if refusals::LONGEST < strip.len() {
-        return refusals::TOO_LONG;
+    if LONGEST < strip.len() {
+        return Err(Refusal::TooLong);
     }
-    if refusals::LONGEST < len {
-        return refusals::TOO_LONG;
+    if LONGEST < len {
+        return Err(Refusal::TooLong);
     }
-    if LONGEST_LINE * (8 * strip.len() / RECORD_BITS) + HEADER_LENGTH + BAD_TAIL_LENGTH <= len {
-        return refusals::DONE;
+    if LONGEST_LINE * (8 * strip.len() / RECORD_BITS) + HEADER.len() + BAD_TAIL.len() <= len {
+        return Ok(());
     }
     if len < text_size(strip) {
-        return refusals::NO_ROOM;
+        return Err(Refusal::NoRoom);
     }
-    refusals::DONE
+    Ok(())
 }
 
-// Writes the header line at the front.
-fn put_header(out: &mut [u8])
-    requires { length header ≤ length out.old }
-    ensures { out.new ≡ sets out.old 0 header }
+// Puts bytes at a place of an output that has room for them, and answers the place behind them.
+pub fn put(some: &[u8], out: &mut [u8], at: usize) -> usize
+    requires { at + length some.now ≤ length out.old }
+    ensures answer { result ≡ at + length some.now }
+    ensures memory { out.new ≡ sets out.old at some.now }
 {
-    let mut i = 0;
-    while i < HEADER_LENGTH {
-        out[i] = HEADER[i];
-        i += 1;
-    }
+    let end = at + some.len();
+    out[at..end].copy_from_slice(some);
+    end
 }
 
 // Writes the text of a strip; the answer is its length.
@@ -81,133 +72,68 @@ pub fn put_text(strip: &[u8], out: &mut [u8]) -> usize
     ensures answer { result ≡ length (text_of strip.now) }
     ensures memory { out.new ≡ sets out.old 0 (text_of strip.now) }
 {
-    put_header(out);
+    let mut at = put(HEADER, out, 0);
     let count = 8 * strip.len() / RECORD_BITS;
-    let mut at = HEADER_LENGTH;
-    let mut i = 0;
-    let mut place = 0;
-    while i < count {
-        at = listing::inner::put_line(strip::inner::record_at(strip, place), out, at);
-        i += 1;
-        place += RECORD_BITS;
+    for i in 0..count {
+        at = listing::inner::put_line(strip::inner::record_at(strip, RECORD_BITS * i), out, at);
     }
     if strip::inner::tail_good(strip) {
         return at;
     }
-    put_bad_tail(out, at)
-}
-
-// Writes `bad tail` at a place, and answers the place behind it.
-fn put_bad_tail(out: &mut [u8], at: usize) -> usize
-    requires { at + length bad_tail ≤ length out.old }
-    ensures answer { result ≡ at + length bad_tail }
-    ensures memory { out.new ≡ sets out.old at bad_tail }
-{
-    let mut i = 0;
-    while i < BAD_TAIL_LENGTH {
-        out[at + i] = BAD_TAIL[i];
-        i += 1;
-    }
-    at + BAD_TAIL_LENGTH
+    put(BAD_TAIL, out, at)
 }
 
 // ---- packing
 
-// Whether a text starts with the header line, byte by byte.
-fn has_header(text: &[u8]) -> bool
-    ensures { result ≡ headed header text.now }
+// Counts the lines behind the header, unless one is bad. (By a place: a line ends where its reading does, which no iterator tells.)
+fn count_lines(text: &[u8]) -> Result<usize, PackError>
+    requires { headed header text.now ≡ true }
+    ensures { result ≡ cond (body_of text.now).good (Ok (length (body_of text.now).records)) (Err (PackError.BadLine (bad_line_of text.now))) }
 {
-    if text.len() < HEADER_LENGTH {
-        return false;
-    }
-    let mut k = 0;
-    while k < HEADER_LENGTH {
-        if text[k] != HEADER[k] {
-            return false;
-        }
-        k += 1;
-    }
-    true
-}
-
-// How many lines are good before the first bad one, and whether there is none.
-#[derive(Clone, Copy)]
-pub struct Counted {
-    pub count: usize,
-    pub good: bool,
-}
-
-// Reads the lines behind the header.
-fn count_lines(text: &[u8]) -> Counted
-    requires { length header ≤ length text.now }
-    ensures { result ≡ record { count = length (body_of text.now).records; good = (body_of text.now).good } }
-{
-    let mut at = HEADER_LENGTH;
+    let mut at = HEADER.len();
     let mut count: usize = 0;
     while at < text.len() {
         let line = line::inner::line_at(text, at);
-        if line.good {
-            at = line.next;
-            count += 1;
-        } else {
-            return Counted { count, good: false };
+        if line.record.is_none() {
+            return Err(PackError::BadLine(count + 2));
         }
+        at = line.next;
+        count += 1;
     }
-    Counted { count, good: true }
+    Ok(count)
 }
 
-// A refusal number, and with 7 the number of the first bad line.
-#[derive(Clone, Copy)]
-pub struct Found {
-    pub refusal: u32,
-    pub line: usize,
-}
-
-// The refusal number of packing a text into `len` bytes.
-pub fn pack_refusal(text: &[u8], len: usize) -> Found
-    ensures { result ≡ record { refusal = pack_refusal text.now len; line = cond (eqb (pack_refusal text.now len) bad_line) (bad_line_of text.now) 0 } }
+// Whether packing a text into `len` bytes is refused, or fails at a bad line.
+pub fn check_pack(text: &[u8], len: usize) -> Result<(), PackError>
+    ensures { found_told result ≡ found_of text.now len }
 {
-    if refusals::LONGEST < text.len() {
-        return because(refusals::TOO_LONG, 0);
+    if LONGEST < text.len() {
+        return Err(PackError::Refused(Refusal::TooLong));
     }
-    if refusals::LONGEST < len {
-        return because(refusals::TOO_LONG, 0);
+    if LONGEST < len {
+        return Err(PackError::Refused(Refusal::TooLong));
     }
-    if has_header(text) {
-        let lines = count_lines(text);
-        if lines.good {
-            if 8 * len / RECORD_BITS < lines.count {
-                return because(refusals::NO_ROOM, 0);
-            }
-            return because(refusals::DONE, 0);
-        }
-        return because(refusals::BAD_LINE, lines.count + 2);
+    if !text.starts_with(HEADER) {
+        return Err(PackError::BadLine(1));
     }
-    because(refusals::BAD_LINE, 1)
+    let count = count_lines(text)?;
+    if 8 * len / RECORD_BITS < count {
+        return Err(PackError::Refused(Refusal::NoRoom));
+    }
+    Ok(())
 }
 
-fn because(refusal: u32, line: usize) -> Found
-    ensures { result ≡ record { refusal = refusal; line = line } }
-{
-    Found { refusal, line }
-}
-
-// Packs the lines of a good text and flushes; the answer is the strip's length.
+// Packs the lines of a good text and flushes; the answer is the strip's length. (By a place, as the count of lines.)
 pub fn put_records(text: &[u8], out: &mut [u8]) -> usize
     requires { (length header ≤ length text.now) × (length text.now ≤ longest) × (length out.old ≤ longest) × ((body_of text.now).good ≡ true) × (strip_length (length (body_of text.now).records) ≤ length out.old) }
     ensures answer { result ≡ strip_length (length (body_of text.now).records) }
     ensures memory { out.new ≡ sets out.old 0 (strip_bytes (body_of text.now).records) }
 {
-    let mut c = State {
-        written: 0,
-        held: 0,
-        number: 0,
-    };
-    let mut at = HEADER_LENGTH;
+    let mut c = strip::inner::START;
+    let mut at = HEADER.len();
     while at < text.len() {
         let line = line::inner::line_at(text, at);
-        let record = line.record;
-        c = strip::inner::put_record(out, c, record);
+        c = strip::inner::put_record(out, c, line.record.unwrap());
         at = line.next;
     }
     let last = writer::inner::flush(Order::Big, out, writer::inner::writer_with(c));

@@ -1,68 +1,63 @@
 // Whole texts: a strip as text, and a text as a strip.
 #![tactic(auto)]
 
+ghost use Rattle.bits.specs.Refusals.{length_told};
 ghost use Rattle.std.specs.Prelude.{◌≡◌, length};
-ghost use Rattle.text.specs.Answers.{list_of, list_out, pack_of, pack_out};
+ghost use Rattle.text.specs.declared.PackError.TheVariants.{Refused};
+ghost use Rattle.text.specs.Answers.{list_of, list_out, packed_told, pack_of, pack_out};
 
-use bits::refusals;
+use bits::Refusal;
+use std::error::Error;
+use std::fmt;
 
 pub mod inner;
 
-// A refusal number, and the text's length, 0 where there is none.
-#[derive(Clone, Copy)]
-pub struct Listed {
-    pub refusal: u32,
-    pub length: usize,
+// Why a text is not packed: by a refusal, or by its first bad line, whose number is told, the header being line 1.
+#[derive(Clone, Copy, Debug, PartialEq, Eq)]
+pub enum PackError {
+    Refused(Refusal),
+    BadLine(usize),
 }
 
-// A refusal number, the strip's length, 0 where there is none, and with refusal 7 the number of the first bad line, else 0.
-#[derive(Clone, Copy)]
-pub struct Packed {
-    pub refusal: u32,
-    pub length: usize,
-    pub line: usize,
+impl fmt::Display for PackError {
+    fn fmt<W: fmt::Write>(&self, f: &mut fmt::Formatter<W>) -> fmt::Result {
+        match self {
+            PackError::Refused(why) => write!(f, "{why}"),
+            PackError::BadLine(line) => write!(f, "line {line} breaks the line rules"),
+        }
+    }
 }
 
-// Writes the text of a strip: the header line, a line a record, and `bad tail` where the tail is bad. Refusals 1 and 8, before the
-// first byte; what lies past the text is untouched.
+impl Error for PackError {}
+
+impl From<Refusal> for PackError {
+    ghost from_gives = { λ refusal error. error ≡ Refused refusal };
+
+    fn from(refusal: Refusal) -> PackError {
+        PackError::Refused(refusal)
+    }
+}
+
+// Writes the text of a strip, and answers its length: the header line, a line a record, and `bad tail` where the tail is bad. Refusals 1
+// and 8, before the first byte; what lies past the text is untouched.
 //     let listed = text::list_text(b"\x00", &mut out);
-//     expect(b"list_text", listed.length == 40);
-pub fn list_text(strip: &[u8], out: &mut [u8]) -> Listed
-    ensures answer { result ≡ list_of strip.now (length out.old) }
+//     expect(b"list_text", listed == Ok(40));
+pub fn list_text(strip: &[u8], out: &mut [u8]) -> Result<usize, Refusal>
+    ensures answer { length_told result ≡ list_of strip.now (length out.old) }
     ensures memory { out.new ≡ list_out strip.now out.old }
 {
-    let refusal = inner::list_refusal(strip, out.len());
-    if refusal != refusals::DONE {
-        return Listed {
-            refusal: refusal,
-            length: 0,
-        };
-    }
-    Listed {
-        refusal: refusals::DONE,
-        length: inner::put_text(strip, out),
-    }
+    inner::check_list(strip, out.len())?;
+    Ok(inner::put_text(strip, out))
 }
 
-// Packs a text into a strip. Refusals 1, 7 (another header, or a line that breaks the line rules; its number is told, the header being
-// line 1) and 8, before the first byte; what lies past the strip is untouched.
+// Packs a text into a strip, and answers its length. Refusals 1 and 8, or the number of the first bad line (another header, or a line that
+// breaks the line rules), before the first byte; what lies past the strip is untouched.
 //     let packed = text::pack_text(b"star,date\n", &mut out);
-//     expect(b"pack_text", packed.line == 1);
-pub fn pack_text(text: &[u8], out: &mut [u8]) -> Packed
-    ensures answer { result ≡ pack_of text.now (length out.old) }
+//     expect(b"pack_text", packed == Err(PackError::BadLine(1)));
+pub fn pack_text(text: &[u8], out: &mut [u8]) -> Result<usize, PackError>
+    ensures answer { packed_told result ≡ pack_of text.now (length out.old) }
     ensures memory { out.new ≡ pack_out text.now out.old }
 {
-    let found = inner::pack_refusal(text, out.len());
-    if found.refusal != refusals::DONE {
-        return Packed {
-            refusal: found.refusal,
-            length: 0,
-            line: found.line,
-        };
-    }
-    Packed {
-        refusal: refusals::DONE,
-        length: inner::put_records(text, out),
-        line: 0,
-    }
+    inner::check_pack(text, out.len())?;
+    Ok(inner::put_records(text, out))
 }

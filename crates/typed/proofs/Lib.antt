@@ -1,3 +1,4 @@
 pub mod SameLaws
 mod WrittenLaws
+mod ReadLaws
 pub mod Theorems

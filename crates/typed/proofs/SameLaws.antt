@@ -5,6 +5,9 @@ use mathlib.Core.Bool.{true}
 use Prim.Native.Nat.{ℕ, zero, suc}
 use borrow.Author.Tests.{eqb-true, eq-eqb}
 use Rattle.bits.proofs.TestLaws.{both, both_true}
+use denote.Enum.Bare.{sameb}
+use lib.Dec.{eqb}
+use Rattle.typed.specs.contracts.Kind.{the_type}
 use Rattle.typed.specs.declared.Kind.{Kind}
 use Rattle.typed.specs.declared.Kind.TheVariants as K
 use Rattle.typed.specs.declared.Typed.{Typed}
@@ -23,6 +26,26 @@ kind_back K.Unsigned = refl
 kind_back K.Signed = refl
 kind_back K.Single = refl
 kind_back K.Double = refl
+
+-- kinds are compared by their cases, and so by their numbers
+pub kinds_same : (a b : Kind) → sameb the_type a b ≡ eqb (number_of a) (number_of b)
+unfolding number_of
+kinds_same K.Unsigned K.Unsigned = refl
+kinds_same K.Unsigned K.Signed = refl
+kinds_same K.Unsigned K.Single = refl
+kinds_same K.Unsigned K.Double = refl
+kinds_same K.Signed K.Unsigned = refl
+kinds_same K.Signed K.Signed = refl
+kinds_same K.Signed K.Single = refl
+kinds_same K.Signed K.Double = refl
+kinds_same K.Single K.Unsigned = refl
+kinds_same K.Single K.Signed = refl
+kinds_same K.Single K.Single = refl
+kinds_same K.Single K.Double = refl
+kinds_same K.Double K.Unsigned = refl
+kinds_same K.Double K.Signed = refl
+kinds_same K.Double K.Single = refl
+kinds_same K.Double K.Double = refl
 
 pub same_exactly : (a b : Typed) → (same_typed a b ≡ true) ↔ ((kind_of a ≡ kind_of b) × (bits_of a ≡ bits_of b))
 unfolding same_typed

@@ -18,7 +18,7 @@ use Rattle.floats.specs.Widening.{widened}
 use Rattle.floats.proofs.FloatLaws.{single_kept, double_kept, double_bits-lt}
 use Rattle.floats.proofs.WideningLaws.{widened-held, widened-back}
 use Rattle.reader.specs.declared.Cursor.{Cursor}
-use Rattle.reader.specs.declared.ReadU64.{ReadU64}
+use Rattle.reader.specs.Answers.{ReadTold}
 use Rattle.reader.specs.Cursor.{place, bits_left, cursor_refusal}
 use Rattle.reader.specs.Answers as R
 use Rattle.reader.proofs.AnswerLaws.{read_refusal_lem}
@@ -33,9 +33,8 @@ use Rattle.typed.specs.declared.Kind.{Kind}
 use Rattle.typed.specs.declared.Kind.TheVariants as K
 use Rattle.typed.specs.declared.Typed.{Typed}
 use Rattle.typed.specs.declared.Typed.TheVariants as T
-use Rattle.typed.specs.declared.TypedRead.TheVariants.{Done, Refused}
 use Rattle.typed.specs.Typed.{typed_of, bits_of, kind_of, same_typed, widened_typed, width_of, meaning, Fits}
-use Rattle.typed.specs.Answers.{answered, read_of, write_of, write_out}
+use Rattle.typed.specs.Answers.{Done, Refused, answered, read_of, write_of, write_out}
 use Rattle.typed.proofs.WrittenLaws.{typed_passed, typed_stored, typed_same}
 
 -- bits turned into a value of a kind and back are the same: all 64, and 32 of a single
@@ -70,7 +69,7 @@ module _ (o : Order) (s : List ℕ) (c : Cursor) (k : Kind) (w : ℕ) where
   read_refused h =
       let kept = L.read_refused o s c (width_of k w) (λ z. h (read_refusal_lem o s c (width_of k w) ∙ z)) in
       rw (ne_eqb (R.read_of o s c (width_of k w)).refusal done h)
-      (ap (λ (d : Cursor). Refused (R.read_of o s c (width_of k w)).refusal d) (ap (λ (r : ReadU64). r.cursor) kept))
+      (ap (λ (d : Cursor). Refused (R.read_of o s c (width_of k w)).refusal d) (ap (λ (r : ReadTold ℕ). r.cursor) kept))
 
 -- ---- there and back
 

@@ -1,17 +1,21 @@
-// Typed values: a value whose case is its kind, read and written in either order.
+// Typed values: a value whose case is its kind, read and written in either order. The kinds are closed, so calls match on them.
 #![tactic(auto)]
 
-ghost use Rattle.std.specs.Prelude.{◌≡◌, length};
+ghost use Rattle.std.specs.Prelude.{◌≡◌, nat_eq, length};
+ghost use Rattle.std.specs.Ordering.{on, eq_of_both};
+ghost use Rattle.std.specs.Cmp.Rules.{comparing};
+ghost use Rattle.std.proofs.Common.{rules};
+ghost use Rattle.writer.specs.Answers.{wrote_told};
 ghost use Rattle.typed.specs.Typed.{typed_of, bits_of, kind_of, number_of, same_typed, widened_typed};
-ghost use Rattle.typed.specs.Answers.{answered, read_of, write_of, write_out};
+ghost use Rattle.typed.specs.Answers.{typed_told, read_of, write_of, write_out};
 
-use bits::{Order, refusals};
+use bits::{Order, Refusal};
 use floats::{Double, Single};
-use reader::Cursor;
-use writer::{Writer, Wrote};
+use reader::{Cursor, Read};
+use writer::Writer;
 
 // The four kinds.
-#[derive(Clone, Copy)]
+#[derive(Clone, Copy, Debug, PartialEq, Eq)]
 pub enum Kind {
     Unsigned,
     Signed,
@@ -21,7 +25,7 @@ pub enum Kind {
 
 // A value of a kind. A single or a double keeps every bit pattern, a NaN's too. A value means its bits: a single or a double whose
 // `Bits` are no NaN's is the number with these bits, and no read gives it.
-#[derive(Clone, Copy)]
+#[derive(Clone, Copy, Debug)]
 pub enum Typed {
     Unsigned(u64),
     Signed(i64),
@@ -29,11 +33,33 @@ pub enum Typed {
     Double(Double),
 }
 
-// The answer of a typed read: the value and the cursor that goes on, or a refusal number and the cursor that came.
-#[derive(Clone, Copy)]
-pub enum TypedRead {
-    Done(Typed, Cursor),
-    Refused(u32, Cursor),
+impl Typed {
+    // The kind of the value: its case.
+    fn kind(self) -> Kind
+        ensures { result ≡ kind_of self }
+    {
+        match self {
+            Typed::Unsigned(_) => Kind::Unsigned,
+            Typed::Signed(_) => Kind::Signed,
+            Typed::Single(_) => Kind::Single,
+            Typed::Double(_) => Kind::Double,
+        }
+    }
+}
+
+// Of one kind, and with the same bits.
+impl PartialEq for Typed {
+    ghost eq = { eq_of_both (on (λ v. number_of (kind_of v)) nat_eq) (on bits_of nat_eq) };
+
+    ghost laws = { Prim.search (comparing, rules) };
+
+    fn eq(&self, other: &Typed) -> bool {
+        self.kind() == other.kind() && bits_of_typed(*self) == bits_of_typed(*other)
+    }
+}
+
+impl Eq for Typed {
+    ghost laws = { Prim.search (comparing, rules) };
 }
 
 // The value of a kind that 64 bits make: themselves, their two's complement, their low 32 as a single, or all as a double.
@@ -72,23 +98,7 @@ pub fn bits_of_typed(value: Typed) -> u64
 pub fn same_typed(a: Typed, b: Typed) -> bool
     ensures { result ≡ same_typed a b }
 {
-    if kind_number(a) == kind_number(b) {
-        bits_of_typed(a) == bits_of_typed(b)
-    } else {
-        false
-    }
-}
-
-// The number of a value's kind.
-fn kind_number(value: Typed) -> u32
-    ensures { result ≡ number_of (kind_of value) }
-{
-    match value {
-        Typed::Unsigned(_n) => 0,
-        Typed::Signed(_z) => 1,
-        Typed::Single(_x) => 2,
-        Typed::Double(_x) => 3,
-    }
+    a == b
 }
 
 // A single as the double that means the same, all NaNs as one (`floats::double_of_single`); a value of another kind as it is.
@@ -108,45 +118,47 @@ pub fn widen_typed(value: Typed) -> Typed
 }
 
 // Reads a value of a kind; the width is that of an unsigned or signed one, and else not looked at. Refusals 1, 2, 3 and 9.
-//     let read = typed::read_typed(start, Order::Big, b"\xfe", Kind::Signed, 8);
-//     expect(b"read_typed", bits_read(read) == 0xffff_ffff_ffff_fffe);
-pub fn read_typed(cursor: Cursor, order: Order, src: &[u8], kind: Kind, width: u32) -> TypedRead
-    ensures { result ≡ read_of order src.now cursor kind width }
+//     let read = typed::read_typed(start, Order::Big, b"\xfe", Kind::Signed, 8)?;
+//     let bits = typed::bits_of_typed(read.value);
+//     expect(b"read_typed", bits == 0xffff_ffff_ffff_fffe);
+pub fn read_typed(
+    cursor: Cursor,
+    order: Order,
+    src: &[u8],
+    kind: Kind,
+    width: u32,
+) -> Result<Read<Typed>, Refusal>
+    ensures { typed_told cursor result ≡ read_of order src.now cursor kind width }
 {
     match kind {
         Kind::Unsigned => {
-            let read = cursor.read_bits(order, src, width);
-            let next = read.cursor;
-            answer(read.refusal, Typed::Unsigned(read.value), next)
+            let read = cursor.read_bits(order, src, width)?;
+            Ok(Read {
+                value: Typed::Unsigned(read.value),
+                cursor: read.cursor,
+            })
         }
         Kind::Signed => {
-            let read = cursor.read_signed_bits(order, src, width);
-            let next = read.cursor;
-            answer(read.refusal, Typed::Signed(read.value), next)
+            let read = cursor.read_signed_bits(order, src, width)?;
+            Ok(Read {
+                value: Typed::Signed(read.value),
+                cursor: read.cursor,
+            })
         }
         Kind::Single => {
-            let read = cursor.read_f32(order, src);
-            let next = read.cursor;
-            let value = read.value;
-            answer(read.refusal, Typed::Single(value), next)
+            let read = cursor.read_f32(order, src)?;
+            Ok(Read {
+                value: Typed::Single(read.value),
+                cursor: read.cursor,
+            })
         }
         Kind::Double => {
-            let read = cursor.read_f64(order, src);
-            let next = read.cursor;
-            let value = read.value;
-            answer(read.refusal, Typed::Double(value), next)
+            let read = cursor.read_f64(order, src)?;
+            Ok(Read {
+                value: Typed::Double(read.value),
+                cursor: read.cursor,
+            })
         }
-    }
-}
-
-// A value and a cursor, or a refusal.
-fn answer(refusal: u32, value: Typed, cursor: Cursor) -> TypedRead
-    ensures { result ≡ answered refusal value cursor }
-{
-    if refusal == refusals::DONE {
-        TypedRead::Done(value, cursor)
-    } else {
-        TypedRead::Refused(refusal, cursor)
     }
 }
 
@@ -154,8 +166,14 @@ fn answer(refusal: u32, value: Typed, cursor: Cursor) -> TypedRead
 // the write beneath: 1, 2, 3, 4 and 8; of a single 16, where it is not 1, 2 or 8.
 //     let _wrote = typed::write_typed(blank, Order::Big, &mut out, two, 8);
 //     expect(b"write_typed", out[0] == 0xfe);
-pub fn write_typed(writer: Writer, order: Order, out: &mut [u8], value: Typed, width: u32) -> Wrote
-    ensures answer { result ≡ write_of order (length out.old) writer value width }
+pub fn write_typed(
+    writer: Writer,
+    order: Order,
+    out: &mut [u8],
+    value: Typed,
+    width: u32,
+) -> Result<Writer, Refusal>
+    ensures answer { wrote_told writer result ≡ write_of order (length out.old) writer value width }
     ensures memory { out.new ≡ write_out order out.old writer value width }
 {
     match value {

@@ -15,10 +15,8 @@ use Rattle.record.specs.declared.Record.{Record}
 use Rattle.record.specs.Record.{no_record}
 use Rattle.strip.specs.Strip.{all_fit, strip_bytes, records_of, tail_good}
 use Rattle.strip.proofs.Theorems.{strip_there_and_back}
-use Rattle.vetting.specs.declared.Verdict.{Verdict}
-use Rattle.vetting.specs.declared.Verdict.TheVariants.{Fine, Broken, BadTail, Refused}
 use Rattle.vetting.specs.Rules.{Keeps, AllKeep, AtFault}
-use Rattle.vetting.specs.Verdicts.{rule_broken, verdict_from, verdict_on, verdict_of, told}
+use Rattle.vetting.specs.Verdicts.{Verdict, Fine, Broken, BadTail, Refused, rule_broken, verdict_from, verdict_on, verdict_of, told}
 use Rattle.vetting.proofs.RuleLaws.{same, kept_all, all_kept, rule_first, rule_unique, date_above, to_keeps, from_keeps}
 
 -- ---- what a verdict was found by

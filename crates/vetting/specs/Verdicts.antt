@@ -1,10 +1,42 @@
 -- The verdict on a strip, on every input, and what each of its cases says in numbers.
-use Rattle.std.specs.Prelude.{ℕ, suc, Bool, true, false, cond, not, ◌&&◌, List, [], ◌∷◌, length, eqb, ltb}
-use Rattle.bits.specs.Refusals.{longest, done, too_long, ◌⟶◌, first_refusal, if_done}
+use Rattle.std.specs.Prelude.{ℕ, suc, Option, Some, None, Result, Ok, Err, Bool, true, false, cond, not, ◌&&◌, List, [], ◌∷◌, length, eqb, ltb}
+use Rattle.bits.specs.declared.Refusal.{Refusal}
+use Rattle.bits.specs.Refusals.{number, longest, done, too_long, ◌⟶◌, first_refusal, if_done}
 use Rattle.record.specs.declared.Record.{Record}
 use Rattle.strip.specs.Strip.{records_of, tail_good}
-use Rattle.vetting.specs.declared.Verdict.{Verdict}
-use Rattle.vetting.specs.declared.Verdict.TheVariants.{Fine, Broken, BadTail, Refused}
+use Rattle.vetting.specs.declared.Rule.{Rule}
+use Rattle.vetting.specs.declared.Rule.TheVariants as which
+use Rattle.vetting.specs.declared.Verdict as D
+use Rattle.vetting.specs.declared.Verdict.TheVariants as case
+
+-- what is said of a strip: it is fine; record n breaks rule r, both by their numbers from 1; its tail is bad; or it is refused
+pub data Verdict : Type 0 where
+  Fine : Verdict
+  Broken : ℕ → ℕ → Verdict
+  BadTail : Verdict
+  Refused : ℕ → Verdict
+
+-- the number of a rule
+abbrev pub rule_number : Rule → ℕ
+rule_number which.Date = 1
+rule_number which.Filter = 2
+rule_number which.Error = 3
+
+-- that of the rule that is broken, 0 where none is
+abbrev pub rule_told : Option Rule → ℕ
+rule_told None = 0
+rule_told (Some r) = rule_number r
+
+-- a verdict, said so
+abbrev pub said : D.Verdict → Verdict
+said case.Fine = Fine
+said (case.Broken n r) = Broken n (rule_number r)
+said case.BadTail = BadTail
+
+-- and the outcome of a call for one
+abbrev pub verdict_told : Result D.Verdict Refusal → Verdict
+verdict_told (Ok v) = said v
+verdict_told (Err e) = Refused (number e)
 
 -- a record's faults as a table: the number of each rule that it breaks, below one of a date
 abbrev pub faults : ℕ → Record → List ℕ

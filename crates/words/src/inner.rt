@@ -3,7 +3,7 @@ ghost use Rattle.std.specs.Prelude.{◌≡◌, ◌+◌, ◌-◌, ◌*◌, ◌/�
 ghost use Rattle.bits.specs.Refusals.{longest};
 ghost use Rattle.bits.specs.Field.{field};
 ghost use Rattle.bits.specs.Word.{first, skipped};
-ghost use Rattle.words.specs.Eight.{eight, swapped};
+ghost use Rattle.words.specs.Eight.{swapped};
 
 use bits::Order;
 
@@ -11,54 +11,31 @@ use bits::Order;
 fn byte_at(src: &[u8], k: usize) -> u8
     ensures { result ≡ get_or src.now k 0 }
 {
-    if k < src.len() { src[k] } else { 0 }
-}
-
-// Eight bytes as one number, the first the most significant.
-fn join8(b0: u8, b1: u8, b2: u8, b3: u8, b4: u8, b5: u8, b6: u8, b7: u8) -> u64
-    ensures { result ≡ eight b0 b1 b2 b3 b4 b5 b6 b7 }
-{
-    ((b0 as u64) << 56)
-        + ((b1 as u64) << 48)
-        + ((b2 as u64) << 40)
-        + ((b3 as u64) << 32)
-        + ((b4 as u64) << 24)
-        + ((b5 as u64) << 16)
-        + ((b6 as u64) << 8)
-        + (b7 as u64)
+    src.get(k).copied().unwrap_or(0)
 }
 
 // The eight bytes of x in the other order.
 pub fn swap8(x: u64) -> u64
     ensures { result ≡ swapped x }
 {
-    join8(
-        (x % 256) as u8,
-        (x / 0x100 % 256) as u8,
-        (x / 0x10000 % 256) as u8,
-        (x / 0x1000000 % 256) as u8,
-        (x / 0x100000000 % 256) as u8,
-        (x / 0x10000000000 % 256) as u8,
-        (x / 0x1000000000000 % 256) as u8,
-        (x / 0x100000000000000) as u8,
-    )
+    x.swap_bytes()
 }
 
-// The 64 bits from byte `at` on, the first byte least significant: eight reads that compile to one load.
+// The 64 bits from byte `at` on, the first byte least significant: the eight reads compile to one load.
 fn load_little(src: &[u8], at: usize) -> u64
     requires { at + 8 ≤ length src.now }
     ensures { result ≡ field Order.Little src.now (8 * at) 64 }
 {
-    join8(
-        src[at + 7],
-        src[at + 6],
-        src[at + 5],
-        src[at + 4],
-        src[at + 3],
-        src[at + 2],
-        src[at + 1],
+    u64::from_le_bytes([
         src[at],
-    )
+        src[at + 1],
+        src[at + 2],
+        src[at + 3],
+        src[at + 4],
+        src[at + 5],
+        src[at + 6],
+        src[at + 7],
+    ])
 }
 
 // The 64 bits from byte `at` on, where eight bytes are there: one load, and a byte swap if the order is big.

@@ -9,17 +9,22 @@ use lib.IntN.{ℤ}
 use lib.ListN.{length}
 use borrow.Author.Tests.{le-ltb, lt-leb}
 use Rattle.bits.specs.declared.Order.{Order}
-use Rattle.bits.specs.Refusals.{done, retired_kind, or_else, first_refusal, if_done}
-use Rattle.bits.proofs.RefusalLaws.{or_else-behind, passed, all_pass, test_failed, at_most, if_refused, if_done_lem, answer_refused}
+use Rattle.std.specs.Prelude.{Result, Ok, Err}
+use Rattle.bits.specs.declared.Refusal.{Refusal}
+use Rattle.bits.specs.Refusals.{done, retired_kind, or_else, first_refusal, if_done, number}
+use Rattle.bits.proofs.RefusalLaws.{or_else-behind, passed, all_pass, test_failed, at_most, number_ne, if_refused, if_done_lem, answer_refused, answer_done}
 use Rattle.packing.specs.declared.State.{State}
-use Rattle.packing.specs.Packing.{Belongs, put, put_out}
+use Rattle.packing.specs.Packing.{Belongs, state_refusal, put, put_out}
 use Rattle.packing.proofs.BelongsLaws.{refusal_belongs, belongs_refusal}
 use Rattle.packing.proofs.PutLaws.{put_none, put_none_out}
 use Rattle.writer.specs.declared.Writer.{Writer}
-use Rattle.writer.specs.declared.Wrote.{Wrote}
 use Rattle.writer.specs.Writer.{state_in, writer_with, bits_written, writer_refusal, oversized, room_refusal, write_refusal, signed_refusal, single_refusal, bytes_refusal, padding}
-use Rattle.writer.specs.Answers.{wrote}
+use Rattle.writer.specs.Answers.{Wrote, wrote_told, wrote}
 use Rattle.writer.proofs.WidthLaws.{fits_width}
+
+-- the refusal of a writer is that of its state, which the code takes out of it
+pub own_refusal : (len : ℕ) {w : Writer} {c : State} {e : ℕ} → c ≡ state_in w → e ≡ state_refusal len c → writer_refusal len w ≡ e
+own_refusal len p q = sym (q ∙ ap (state_refusal len) p)
 
 -- ---- tests that were passed
 
@@ -80,14 +85,15 @@ abbrev reply : ℕ → Writer → Wrote
 reply e w = record { refusal = e; writer = w }
 
 -- of a call with the refusal number e: a refusal leaves writer and output as they came
-module _ (w : Writer) (s : List ℕ) {e r : ℕ} (told : r ≡ e) where
-  pub refused : (c : State) (t : List ℕ) → (r ≡ done → ⊥) → (reply r w ≡ wrote e w c) × (s ≡ if_done e t s)
-  refused c t h = (answer_refused told reply (writer_with c) w h, if_refused told t s h)
+module _ (w : Writer) (s : List ℕ) where
+  pub refused : {r : Result Writer Refusal} {f : Refusal} {e : ℕ} → r ≡ Err f → number f ≡ e → (c : State) (t : List ℕ)
+      → (wrote_told w r ≡ wrote e w c) × (s ≡ if_done e t s)
+  refused {f = f} p told c t = rw p (answer_refused told reply (writer_with c) w (number_ne f), if_refused told t s (number_ne f))
 
   -- done leaves the writer with the state c, and the output t
-  pub answered : {v : Writer} {u t : List ℕ} {c d : State} → r ≡ done → v ≡ writer_with d → d ≡ c → u ≡ t
-      → (reply r v ≡ wrote e w c) × (u ≡ if_done e t s)
-  answered {t = t} {c = c} z p f q = (λ i. reply (told i) ((p ∙ ap writer_with f ∙ if_done_lem told (writer_with c) w z) i), q ∙ if_done_lem told t s z)
+  pub answered : {v : Writer} {e : ℕ} {u t : List ℕ} {c d : State} → done ≡ e → v ≡ writer_with d → d ≡ c → u ≡ t
+      → (wrote_told w (Ok v) ≡ wrote e w c) × (u ≡ if_done e t s)
+  answered {t = t} {c = c} told p f q = (answer_done told reply _ _ refl (p ∙ ap writer_with f), q ∙ if_done_lem told t s refl)
 
 -- no bits put leave writer and output as they came
 module _ (o : Order) (s : List ℕ) (w : Writer) (h : Belongs (length s) (state_in w)) where

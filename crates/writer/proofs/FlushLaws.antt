@@ -15,9 +15,8 @@ use Rattle.packing.specs.Packing.{Belongs, story}
 use Rattle.packing.proofs.BelongsLaws.{belongs_refusal}
 use Rattle.packing.proofs.StoryLaws.{story-lt, story_aligned}
 use Rattle.writer.specs.declared.Writer.{Writer}
-use Rattle.writer.specs.declared.Wrote.{Wrote}
 use Rattle.writer.specs.Writer.{state_in, bits_written, writer_refusal, padding}
-use Rattle.writer.specs.Answers.{flush_of, flush_out}
+use Rattle.writer.specs.Answers.{Wrote, flush_of, flush_out}
 use Rattle.writer.proofs.WriteLaws.{Stored, flush_stored, flush_whole}
 
 module _ (o : Order) (s : List ℕ) (w : Writer) (h : Belongs (length s) (state_in w)) where

@@ -2,3 +2,4 @@ mod WidthLaws
 pub mod AnswerLaws
 pub mod WriteLaws
 pub mod FlushLaws
+pub mod ToldLaws

@@ -21,9 +21,8 @@ use Rattle.packing.proofs.PutLaws.{put-length, put_written, put-belongs}
 use Rattle.packing.proofs.PutBytesLaws.{bytes_put, bytes_put_out}
 use Rattle.packing.proofs.StoryLaws.{story_aligned, put-story}
 use Rattle.writer.specs.declared.Writer.{Writer}
-use Rattle.writer.specs.declared.Wrote.{Wrote}
 use Rattle.writer.specs.Writer.{state_in, bits_written, writer_refusal, write_refusal, signed_refusal, bytes_refusal, padding}
-use Rattle.writer.specs.Answers.{wrote, new_of, write_of, write_out, signed_of, signed_out, bytes_of, bytes_out, flush_of, flush_out}
+use Rattle.writer.specs.Answers.{Wrote, wrote, new_of, write_of, write_out, signed_of, signed_out, bytes_of, bytes_out, flush_of, flush_out}
 use Rattle.writer.proofs.AnswerLaws.{Room, write_passed, signed_passed, bytes_passed, flush_passed}
 
 -- ---- a fresh writer

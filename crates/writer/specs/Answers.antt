@@ -1,26 +1,35 @@
 -- What each method of a writer answers, and what the output holds afterwards, on every input.
-use Rattle.std.specs.Prelude.{ℕ, ◌%◌, ◌^◌, List, length, ltb, ℤ}
+use Rattle.std.specs.Prelude.{ℕ, Result, Ok, Err, ◌%◌, ◌^◌, List, length, ltb, ℤ}
 use Rattle.bits.specs.declared.Order.{Order}
-use Rattle.bits.specs.Refusals.{longest, too_long, ◌⟶◌, if_done}
+use Rattle.bits.specs.Refusals.{longest, done, too_long, ◌⟶◌, if_done, number, Told, told_by}
+use Rattle.bits.specs.declared.Refusal.{Refusal}
 use Rattle.bits.specs.Signed.{pattern}
 use Rattle.packing.specs.declared.State.{State}
 use Rattle.packing.specs.Packing.{put, put_out, put_bytes, put_bytes_out}
 use Rattle.writer.specs.declared.Writer.{Writer}
-use Rattle.writer.specs.declared.Wrote.{Wrote}
-use Rattle.writer.specs.declared.Unaligned.{Unaligned}
 use Rattle.writer.specs.Writer.{state_in, writer_with, writer_refusal, write_refusal, signed_refusal, single_refusal, bytes_refusal, padding}
+
+-- what is told of a write: the number of its refusal or done, and the writer that goes on
+pub record Wrote : Type 0 where
+  pub refusal : ℕ
+  pub writer : Writer
+
+-- the outcome of a write by the writer w: where it is refused, w is the one that goes on
+abbrev pub wrote_told : Writer → Result Writer Refusal → Wrote
+wrote_told w (Ok x) = record { refusal = done; writer = x }
+wrote_told w (Err e) = record { refusal = number e; writer = w }
+
+-- a fresh writer is all zeros
+abbrev pub fresh : Writer
+fresh = record { written = 0; held = 0; number = 0 }
 
 -- the refusal e and the writer that came, or done and the writer with state c
 abbrev pub wrote : ℕ → Writer → State → Wrote
 wrote e w c = record { refusal = e; writer = if_done e (writer_with c) w }
 
--- a fresh writer is all zeros, also where the output is past the limit
+-- a fresh writer, also where the output is past the limit
 unfoldable pub new_of : ℕ → Wrote
-new_of len =
-    record {
-      refusal = ltb longest len ⟶ too_long;
-      writer = record { written = 0; held = 0; number = 0 };
-    }
+new_of len = record { refusal = ltb longest len ⟶ too_long; writer = fresh }
 
 -- n bits v, of which width 0 takes any and stores none
 unfoldable pub write_of : Order → ℕ → Writer → ℕ → ℕ → Wrote
@@ -41,8 +50,8 @@ unfoldable pub retired_of : ℕ → Writer → Wrote
 retired_of len w = record { refusal = single_refusal len w; writer = w }
 
 -- the bits held
-unfoldable pub unaligned_of : ℕ → Writer → Unaligned
-unaligned_of len w = record { refusal = writer_refusal len w; value = if_done (writer_refusal len w) w.held 0 }
+unfoldable pub unaligned_of : ℕ → Writer → Told ℕ
+unaligned_of len w = told_by (writer_refusal len w) (if_done (writer_refusal len w) w.held 0)
 
 -- bytes, eight bits each
 unfoldable pub bytes_of : Order → ℕ → Writer → List ℕ → Wrote

@@ -1,10 +1,12 @@
 // A writer taken apart and put together, and the refusals and the padding behind its methods.
 ghost use Rattle.std.specs.Prelude.{◌≡◌, ◌≤◌, length};
+ghost use Rattle.bits.specs.Refusals.{number_of};
 ghost use Rattle.packing.specs.Packing.{put, put_out, Belongs};
-ghost use Rattle.writer.specs.Writer.{state_in, writer_with, oversized, room_refusal, write_refusal, signed_refusal, single_refusal, bytes_refusal, padding};
+ghost use Rattle.writer.specs.Writer.{state_in, writer_with, oversized, room_refusal, write_refusal, signed_refusal, bytes_refusal, padding};
+ghost use Rattle.writer.specs.Answers.{wrote_told, retired_of};
 
 use crate::Writer;
-use bits::{Order, refusals};
+use bits::{LONGEST, Order, Refusal};
 use packing::State;
 
 // The state of a writer.
@@ -37,79 +39,64 @@ fn too_large(value: u64, n: u32) -> bool
     1 < value >> (n - 1)
 }
 
-// 8 where n bits more do not fit the output.
-pub fn room_refusal(len: usize, w: Writer, n: usize) -> u32
+// Tests for room: 8 where n bits more do not fit the output.
+pub fn check_room(len: usize, w: Writer, n: usize) -> Result<(), Refusal>
     requires { Belongs len (state_in w) × (n ≤ 134217728) }
-    ensures { result ≡ room_refusal len w n }
+    ensures { number_of result ≡ room_refusal len w n }
 {
     if 8 * (len - w.written) < w.held as usize + n {
-        refusals::NO_ROOM
+        Err(Refusal::NoRoom)
     } else {
-        refusals::DONE
+        Ok(())
     }
 }
 
-// The refusal number of an unsigned write.
-pub fn write_refusal(len: usize, w: Writer, bits: u32, value: u64) -> u32
-    ensures { result ≡ write_refusal len w bits value }
+// Tests an unsigned write: 1 and 2, then 3, 4 and 8.
+pub fn check_write(len: usize, w: Writer, bits: u32, value: u64) -> Result<(), Refusal>
+    ensures { number_of result ≡ write_refusal len w bits value }
 {
-    let refusal = packing::inner::refusal(len, state_in(w));
-    if refusal != refusals::DONE {
-        return refusal;
-    }
+    packing::inner::check(len, state_in(w))?;
     if 64 < bits {
-        return refusals::TOO_WIDE;
+        return Err(Refusal::TooWide);
     }
     if bits == 0 {
-        return refusals::DONE;
+        return Ok(());
     }
     if too_large(value, bits) {
-        return refusals::TOO_LARGE;
+        return Err(Refusal::TooLarge);
     }
-    room_refusal(len, w, bits as usize)
+    check_room(len, w, bits as usize)
 }
 
-// The refusal number of a signed write, which takes every number.
-pub fn signed_refusal(len: usize, w: Writer, bits: u32, value: i64) -> u32
-    ensures { result ≡ signed_refusal len w bits value }
+// Tests a signed write, which takes every number: 1 and 2, then 3 and 8.
+pub fn check_signed(len: usize, w: Writer, bits: u32, value: i64) -> Result<(), Refusal>
+    ensures { number_of result ≡ signed_refusal len w bits value }
 {
-    let refusal = packing::inner::refusal(len, state_in(w));
-    if refusal != refusals::DONE {
-        return refusal;
-    }
+    packing::inner::check(len, state_in(w))?;
     if 64 < bits {
-        return refusals::TOO_WIDE;
+        return Err(Refusal::TooWide);
     }
-    room_refusal(len, w, bits as usize)
+    check_room(len, w, bits as usize)
 }
 
-// The refusal number of a write of a single: 16 where nothing lower refuses its 32 bits.
-pub fn single_refusal(len: usize, w: Writer) -> u32
-    ensures { result ≡ single_refusal len w }
+// Refuses a single: 1 and 2, then 8, and 16 where nothing lower refuses its 32 bits.
+pub fn refuse_single(len: usize, w: Writer) -> Result<Writer, Refusal>
+    ensures { wrote_told w result ≡ retired_of len w }
 {
-    let refusal = packing::inner::refusal(len, state_in(w));
-    if refusal != refusals::DONE {
-        return refusal;
-    }
-    let room = room_refusal(len, w, 32);
-    if room != refusals::DONE {
-        return room;
-    }
-    refusals::RETIRED_KIND
+    packing::inner::check(len, state_in(w))?;
+    check_room(len, w, 32)?;
+    Err(Refusal::RetiredKind)
 }
 
-// The refusal number of a write of n bytes.
-pub fn bytes_refusal(len: usize, w: Writer, n: usize) -> u32
-    ensures { result ≡ bytes_refusal len w n }
+// Tests a write of n bytes: 1 also for the bytes, 2, then 8.
+pub fn check_bytes(len: usize, w: Writer, n: usize) -> Result<(), Refusal>
+    ensures { number_of result ≡ bytes_refusal len w n }
 {
-    if refusals::LONGEST < n {
-        return refusals::TOO_LONG;
+    if LONGEST < n {
+        return Err(Refusal::TooLong);
     }
-    let refusal = packing::inner::refusal(len, state_in(w));
-    if refusal != refusals::DONE {
-        return refusal;
-    }
-    room_refusal(len, w, 8 * n)
+    packing::inner::check(len, state_in(w))?;
+    check_room(len, w, 8 * n)
 }
 
 // Zeros up to a byte. Between calls at most seven bits are held, so where any are, a byte lacks one to seven; the Rust tests that it is not eight.

@@ -1,9 +1,7 @@
--- `same_single` meets its contract: it compares the two values' bits. Assumes nothing.
-use mathlib.Core.Path.{ap₂}
-use lib.Dec.{eqb}
+-- `same_single` meets its contract: `==` compares the two values' bits. Assumes nothing.
 use Rattle.floats.specs.Floats.{same_single}
 use Rattle.floats.proofs.same_single.Goals as goal
 
 pub returns : goal.returns
 unfolding same_single
-returns c = ap₂ eqb c.bits_of_single.ensures c.bits_of_single-2.ensures
+returns c = c.eq.ensures

@@ -1,22 +1,16 @@
 -- `list_answer` meets its contract: a strip past the limit is told so, any other is listed (`list_done`). Assumes nothing.
 use mathlib.Core.Path.{◌∙◌}
-use Rattle.jobs.proofs.AnswerLaws.{list_long, list_done}
+use Rattle.jobs.proofs.AnswerLaws.{list_long, listed_answered, list_done}
 use Rattle.jobs.proofs.MessageLaws.{too_long_is}
 use Rattle.jobs.proofs.list_answer.Goals as goal
 
 pub returns-then-input-gt-MOST_TAKEN : goal.returns-then-input-gt-MOST_TAKEN
 returns-then-input-gt-MOST_TAKEN c =
-    let said = c.say in
-    let a = c.args in
-    let e = list_long a.input.now c.if-input-gt-MOST_TAKEN.true ∙ too_long_is in
-    rw e (record {
-      answer = said.ensures.answer;
-      memory = said.ensures.memory;
-    })
+    let said = c.say.ensures in
+    rw (list_long c.args.input.now c.if-input-gt-MOST_TAKEN.true ∙ too_long_is) (record { answer = said.answer; memory = said.memory })
 
 pub returns : goal.returns
 returns c =
-    let both = (let listed = c.list_text-listed in
-    let left = c in
-    let a = left.args in
-    list_done a.input.now left.if-input-gt-MOST_TAKEN.false a.out.now listed.ensures.answer listed.ensures.memory) in record { answer = both.0; memory = both.1 }
+    let listed = c.list_text.ensures in
+    let (answer, memory) = list_done c.args.input.now c.if-input-gt-MOST_TAKEN.false c.args.out.now listed.answer listed.memory in
+    record { answer = listed_answered _ ∙ answer; memory = memory }

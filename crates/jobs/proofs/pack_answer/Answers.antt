@@ -1,50 +1,55 @@
 -- `pack_answer` meets its contract: a text past the limit is told so, a bad line by its number (`pack_said`), any other text is packed
 -- (`pack_done`). Assumes nothing.
 use Prim.Native.Nat.{ℕ}
-use mathlib.Core.Path.{sym, ap₂, ◌∙◌}
+use mathlib.Core.Path.{refl, sym, ap, ap₂, ◌∙◌}
 use mathlib.Core.List.{List}
 use lib.ListN.{length}
 use native.Mathlib.Omega.{arith}
+use Rattle.std.specs.Prelude.{Err}
+use Rattle.text.specs.declared.PackError.{PackError}
+use Rattle.text.specs.Answers.{packed_told}
 use Rattle.jobs.specs.Answers.{answered_of, answered_out}
 use Rattle.jobs.proofs.MessageLaws.{too_long_is, bad_line_is}
-use Rattle.jobs.proofs.PackLaws.{pack_long, pack_said, pack_done, line_few}
+use Rattle.jobs.proofs.PackLaws.{pack_long, pack_said, no_line, pack_done, line_few}
 use Rattle.jobs.proofs.pack_answer.Goals as goal
 
 pub returns-then-input-gt-MOST_TAKEN : goal.returns-then-input-gt-MOST_TAKEN
 returns-then-input-gt-MOST_TAKEN c =
-    let said = c.say in
-    let a = c.args in
-    let e = pack_long a.input.now c.if-input-gt-MOST_TAKEN.true ∙ too_long_is in
-    rw e (record {
-      answer = said.ensures.answer;
-      memory = said.ensures.memory;
-    })
+    let said = c.say.ensures in
+    rw (pack_long c.args.input.now c.if-input-gt-MOST_TAKEN.true ∙ too_long_is) (record { answer = said.answer; memory = said.memory })
 
-pub overflow_cast-packed : goal.overflow_cast-packed
-overflow_cast-packed c =
-    let left = c in
-    let a = left.args in
-    let short = left.if-input-gt-MOST_TAKEN.false in
-    let few = line_few a.input.now (length a.out.now) c.pack_text-packed.ensures.answer in
+pub overflow_cast-line : goal.overflow_cast-line
+overflow_cast-line c =
+    let short = c.if-input-gt-MOST_TAKEN.false in
+    let told = ap (λ (e : PackError). packed_told (Err e)) (sym c.in-Err-BadLine.field-0-is) ∙ c.in-Err-BadLine.ensures.answer in
+    let few = line_few c.args.input.now (length c.args.out.now) told in
     omega arith
 
-pub returns-then-packed-eq-BAD_LINE : goal.returns-then-packed-eq-BAD_LINE
-returns-then-packed-eq-BAD_LINE c =
-    let said = c.say_numbered in
-    let packed = c.pack_text-packed in
-    let left = c in
-    let a = left.args in
-    let bad = c.if-packed-eq-BAD_LINE.true in
-    let (answer, same) = pack_said a.input.now left.if-input-gt-MOST_TAKEN.false a.out.now packed.ensures.answer bad in
-    let message = answer ∙ bad_line_is _ in
-    let untouched = packed.ensures.memory ∙ same in record {
-      answer = said.ensures.answer ∙ ap₂ (λ (x o : List ℕ). answered_of x (length o)) (sym message) untouched;
-      memory = said.ensures.memory ∙ ap₂ answered_out (sym message) untouched;
+pub returns-in-Ok : goal.returns-in-Ok
+returns-in-Ok c =
+    let packed = c.in-Ok.ensures in
+    let (answer, memory) = pack_done c.args.input.now c.if-input-gt-MOST_TAKEN.false c.args.out.now packed.answer packed.memory (λ z. absurd (omega arith)) in
+    record { answer = answer; memory = memory }
+
+pub returns-in-Err-BadLine : goal.returns-in-Err-BadLine
+returns-in-Err-BadLine c =
+    let said = c.say_numbered.ensures in
+    let packed = c.in-Err-BadLine.ensures in
+    let told = ap (λ (e : PackError). packed_told (Err e)) (sym c.in-Err-BadLine.field-0-is) ∙ packed.answer in
+    let (answer, same) = pack_said c.args.input.now c.if-input-gt-MOST_TAKEN.false c.args.out.now told refl in
+    let message = sym (answer ∙ bad_line_is _) in
+    let untouched = packed.memory ∙ same in
+    record {
+      answer = said.answer ∙ ap₂ (λ (x o : List ℕ). answered_of x (length o)) message untouched;
+      memory = said.memory ∙ ap₂ answered_out message untouched;
     }
 
-pub returns : goal.returns
-returns c =
-    let both = (let packed = c.pack_text-packed in
-    let left = c in
-    let a = left.args in
-    pack_done a.input.now left.if-input-gt-MOST_TAKEN.false a.out.now packed.ensures.answer packed.ensures.memory c.if-packed-eq-BAD_LINE.false) in record { answer = both.0; memory = both.1 }
+pub returns-in-Err-Refused : goal.returns-in-Err-Refused
+returns-in-Err-Refused c =
+    let packed = c.in-Err-Refused.ensures in
+    let t = c.args.input.now in
+    let short = c.if-input-gt-MOST_TAKEN.false in
+    let out = c.args.out.now in
+    let told = ap (λ (e : PackError). packed_told (Err e)) (sym c.in-Err-Refused.field-0-is) ∙ packed.answer in
+    let (answer, memory) = pack_done t short out told packed.memory (no_line t short out told refl) in
+    record { answer = answer; memory = memory }

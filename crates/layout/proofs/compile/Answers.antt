@@ -1,40 +1,27 @@
 -- `compile` meets its contract: it writes only if nothing is refused, and then the whole plan. Assumes nothing.
-use mathlib.Core.Path.{◌≡◌, refl, sym, ◌∙◌}
-use borrow.Author.Tests.{ne_eqb}
-use lib.ListN.{length}
-use Rattle.bits.specs.Refusals.{done}
-use Rattle.layout.specs.Answers.{compile_refusal, compile_of, compile_out}
+use mathlib.Core.Path.{refl, sym, ◌∙◌}
+use Rattle.bits.proofs.RefusalLaws.{handed_on, number_ne, answer_refused, answer_done, if_refused, if_done_lem}
+use Rattle.layout.specs.Answers.{compiled, compile_of, compile_out}
 use Rattle.layout.proofs.AnswerLaws.{compile-done}
 use Rattle.layout.proofs.compile.Goals as goal
-use Rattle.layout.proofs.compile.Goals.{After-put_plan-arg-1, After-slice_known-2-1}
 
-pub returns-then-refusal-ne-DONE : goal.returns-then-refusal-ne-DONE
+pub returns-in_err-check_compile : goal.returns-in_err-check_compile
 unfolding compile_of compile_out
-returns-then-refusal-ne-DONE c = rw (← c.compile_refusal-refusal.ensures, ne_eqb _ done c.if-refusal-ne-DONE.true) (record {
-  answer = refl;
-  memory = refl;
-})
-
--- nothing is refused
-accepted_1 : (c : After-put_plan-arg-1) →
-    let a = c.args in
-    compile_refusal a.layout.now (length a.out.now) ≡ done
-accepted_1 c = sym c.compile_refusal-refusal.ensures ∙ c.if-refusal-ne-DONE.false
+returns-in_err-check_compile c =
+    let found = c.in_err-check_compile.ensures in
+    record {
+      answer = rw (handed_on _ _ c.from_residual.ensures.1) (answer_refused found compiled _ _ (number_ne _));
+      memory = if_refused found _ _ (number_ne _);
+    }
 
 pub put_plan-requires : goal.put_plan-requires
-put_plan-requires c = (compile-done _ _ (accepted_1 c)).2
-
--- nothing is refused
-accepted_2 : (c : After-slice_known-2-1) →
-    let a = c.args in
-    compile_refusal a.layout.now (length a.out.now) ≡ done
-accepted_2 c = sym c.compile_refusal-refusal.ensures ∙ c.if-refusal-ne-DONE.false
+put_plan-requires c = (compile-done _ _ (sym c.in_ok-check_compile.ensures)).2
 
 pub returns : goal.returns
 unfolding compile_of compile_out
 returns c =
-    let wrote = c.put_plan in
-    rw (accepted_2 c) (record {
-      answer = (λ j. record { refusal = done; length = wrote.ensures.answer j });
-      memory = wrote.ensures.memory;
-    })
+    let found = c.in_ok-check_compile.ensures in
+    record {
+      answer = answer_done found compiled _ _ refl c.put_plan.ensures.answer;
+      memory = c.put_plan.ensures.memory ∙ if_done_lem found _ _ refl;
+    }

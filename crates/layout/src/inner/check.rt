@@ -1,8 +1,8 @@
 // The plan check: which bytes are a plan.
-ghost use Rattle.std.specs.Prelude.{◌≡◌, true, cond, ◌-◌, ◌<◌, ◌≤◌, length, get_or, drop};
+ghost use Rattle.std.specs.Prelude.{◌≡◌, true, cond, Some, None, MatchOption, ◌-◌, ◌<◌, ◌≤◌, length, get_or, drop};
 ghost use Rattle.layout.specs.Plan.{count as count_of};
 ghost use Rattle.layout.specs.Check.{fits as fits_of, ends_wide, at_field, in_wide, is_plan};
-ghost use Rattle.layout.specs.Take.{TakenAt};
+ghost use Rattle.layout.specs.Take.{TakenAt, NoneAt};
 
 use crate::inner::steps;
 
@@ -11,22 +11,18 @@ fn fits(b: u8, low: u32, g: u32) -> bool
     ensures { result ≡ fits_of low g b }
 {
     let n = steps::count(b);
-    if low <= n { n <= g } else { false }
+    low <= n && n <= g
 }
 
 // Whether a step takes the last 1 to 8 bits of a wide field.
 fn ends_wide(b: u8) -> bool
     ensures { result ≡ ends_wide b }
 {
-    if steps::ends(b) {
-        if b % 64 >= 1 { b % 64 <= 8 } else { false }
-    } else {
-        false
-    }
+    steps::ends(b) && 1 <= b % 64 && b % 64 <= 8
 }
 
-// A take: where the step after it is, the take itself, or 0 if there is none that fits, and the known lookahead that it leaves.
-#[derive(Clone, Copy)]
+// A take that fits: where the step after it is, the take itself, and the known lookahead that it leaves.
+#[derive(Clone, Copy, Debug, PartialEq, Eq)]
 pub struct Take {
     pub next: usize,
     pub step: u8,
@@ -34,53 +30,43 @@ pub struct Take {
 }
 
 // The take b, if it is of at least low bits and at most g.
-fn taken(next: usize, b: u8, low: u32, g: u32) -> Take
-    ensures { result ≡ record { next = next; step = cond (fits_of low g b) b 0; left = cond (fits_of low g b) (g - count_of b) 0 } }
+fn taken(next: usize, b: u8, low: u32, g: u32) -> Option<Take>
+    ensures { result ≡ cond (fits_of low g b) (Some (record { next = next; step = b; left = g - count_of b })) None }
 {
-    if fits(b, low, g) {
-        return Take {
-            next: next,
-            step: b,
-            left: g - steps::count(b),
-        };
+    if !fits(b, low, g) {
+        return None;
     }
-    Take {
-        next: next,
-        step: 0,
-        left: 0,
-    }
+    Some(Take {
+        next,
+        step: b,
+        left: g - steps::count(b),
+    })
 }
 
 // The take at step i, with a known lookahead g: that step, or the one behind a refill, which has to be of more than g bits.
-fn take_at(p: &[u8], i: usize, g: u32) -> Take
+fn take_at(p: &[u8], i: usize, g: u32) -> Option<Take>
     requires { (i < length p.now) × (g ≤ 56) }
-    ensures { TakenAt p.now i g result }
+    ensures { MatchOption result (NoneAt p.now i g) (TakenAt p.now i g) }
 {
     let b = p[i];
-    if b == 0 {
-        if i + 1 < p.len() {
-            return taken(i + 2, p[i + 1], g + 1, 56);
-        }
-        return Take {
-            next: i + 1,
-            step: 0,
-            left: 0,
-        };
+    if b != 0 {
+        return taken(i + 1, b, 0, g);
     }
-    taken(i + 1, b, 0, g)
+    if i + 1 < p.len() {
+        return taken(i + 2, p[i + 1], g + 1, 56);
+    }
+    None
 }
 
 // Whether there is a take at step i that wants a refill, with a known lookahead g.
 pub fn wanted(p: &[u8], i: usize, g: u32) -> bool
     ensures { result ≡ true → (i < length p.now) × (g < count_of (get_or p.now i 0)) }
 {
-    if i < p.len() {
-        return g < steps::count(p[i]);
-    }
-    false
+    i < p.len() && g < steps::count(p[i])
 }
 
 // At a field: from a step on, with a known lookahead and so many more fields allowed; it goes on as long as no wide field starts.
+// (By an index: a take is one step, or two with a refill.)
 #[cycle(at_field_in_wide)]
 fn at_field(p: &[u8], start: usize, known: u32, more: u32) -> bool
     requires { (start ≤ length p.now) × (known ≤ 56) }
@@ -90,20 +76,18 @@ fn at_field(p: &[u8], start: usize, known: u32, more: u32) -> bool
     let mut g = known;
     let mut n = more;
     while i < p.len() {
-        let t = take_at(p, i, g);
-        if steps::ends(t.step) {
-            if n == 0 {
-                return false;
-            }
-            i = t.next;
-            g = t.left;
-            n -= 1;
-        } else {
-            if t.step == 248 {
-                return in_wide(p, t.next, t.left, n);
-            }
+        let Some(t) = take_at(p, i, g) else {
+            return false;
+        };
+        if t.step == 248 {
+            return in_wide(p, t.next, t.left, n);
+        }
+        if !steps::ends(t.step) || n == 0 {
             return false;
         }
+        i = t.next;
+        g = t.left;
+        n -= 1;
     }
     true
 }
@@ -117,22 +101,15 @@ fn in_wide(p: &[u8], i: usize, g: u32, n: u32) -> bool
     if i == p.len() {
         return false;
     }
-    let t = take_at(p, i, g);
-    if ends_wide(t.step) {
-        if n == 0 {
-            return false;
-        }
-        return at_field(p, t.next, t.left, n - 1);
-    }
-    false
+    let Some(t) = take_at(p, i, g) else {
+        return false;
+    };
+    ends_wide(t.step) && n != 0 && at_field(p, t.next, t.left, n - 1)
 }
 
 // Whether bytes are a plan. No plan is longer than 256 bytes: longer ones are told before the recursion starts, which bounds its depth.
 pub fn is_plan(p: &[u8]) -> bool
     ensures { result ≡ is_plan p.now }
 {
-    if 256 < p.len() {
-        return false;
-    }
-    at_field(p, 0, 0, 64)
+    p.len() <= 256 && at_field(p, 0, 0, 64)
 }

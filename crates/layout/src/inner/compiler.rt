@@ -1,16 +1,17 @@
 // The compiler: from a layout to its plan.
 ghost use Rattle.std.specs.Prelude.{◌≡◌, true, [], ◌∷◌, ◌+◌, ◌%◌, ◌≤◌, length, set};
 ghost use Rattle.std.proofs.lemmas.List.Edits.{sets};
+ghost use Rattle.bits.specs.Refusals.{number_of};
 ghost use Rattle.layout.specs.Layout.{item, items_of, good_item, good_items, is_layout};
 ghost use Rattle.layout.specs.Plan.{takes, refilled};
 ghost use Rattle.layout.specs.Answers.{plan_of, compile_refusal};
 ghost use Rattle.layout.specs.Known.{after, known};
 
 use crate::inner::steps;
-use bits::refusals;
+use bits::{LONGEST, Refusal};
 
 // Where the next step goes, and the known lookahead.
-#[derive(Clone, Copy)]
+#[derive(Clone, Copy, Debug, PartialEq, Eq)]
 pub struct Put {
     pub at: usize,
     pub known: u32,
@@ -70,31 +71,25 @@ pub fn put_plan(layout: &[u8], out: &mut [u8]) -> usize
     ensures memory { out.new ≡ sets out.old 0 (plan_of layout.now) }
 {
     let mut p = Put { at: 0, known: 0 };
-    let mut i: usize = 0;
-    while i < layout.len() {
-        p = put_field(out, p, layout[i], layout[i + 1]);
-        i += 2;
+    for field in layout.chunks_exact(2) {
+        p = put_field(out, p, field[0], field[1]);
     }
     p.at
 }
 
-// Whether a field has a kind and a width that there is.
+// Whether a field has a kind and a width that there is. (Both are the layout's bytes, which the format fixes.)
 fn good_field(kind: u8, width: u8) -> bool
     ensures { result ≡ good_item (item kind width) }
 {
-    if kind <= 1 { width <= 64 } else { false }
+    kind <= 1 && width <= 64
 }
 
 // Whether every field has.
 fn good_fields(layout: &[u8]) -> bool
-    requires { (length layout.now % 2 ≡ 0) × (length layout.now ≤ 128) }
     ensures { result ≡ good_items (items_of layout.now) }
 {
-    let mut i: usize = 0;
-    while i < layout.len() {
-        if good_field(layout[i], layout[i + 1]) {
-            i += 2;
-        } else {
+    for field in layout.chunks_exact(2) {
+        if !good_field(field[0], field[1]) {
             return false;
         }
     }
@@ -105,31 +100,25 @@ fn good_fields(layout: &[u8]) -> bool
 pub fn is_layout(layout: &[u8]) -> bool
     ensures { result ≡ is_layout layout.now }
 {
-    if layout.len() % 2 == 0 {
-        if layout.len() <= 128 {
-            return good_fields(layout);
-        }
+    if layout.len() % 2 != 0 || 128 < layout.len() {
         return false;
     }
-    false
+    good_fields(layout)
 }
 
-// The refusal number of compiling into `room` bytes: the length is found by compiling into nothing.
-pub fn compile_refusal(layout: &[u8], room: usize) -> u32
-    ensures { result ≡ compile_refusal layout.now room }
+// Tests compiling into `room` bytes: 1, 5 and 8. The length is found by compiling into nothing.
+pub fn check_compile(layout: &[u8], room: usize) -> Result<(), Refusal>
+    ensures { number_of result ≡ compile_refusal layout.now room }
 {
-    if refusals::LONGEST < layout.len() {
-        return refusals::TOO_LONG;
+    if LONGEST < layout.len() || LONGEST < room {
+        return Err(Refusal::TooLong);
     }
-    if refusals::LONGEST < room {
-        return refusals::TOO_LONG;
+    if !is_layout(layout) {
+        return Err(Refusal::BadLayout);
     }
-    if is_layout(layout) {
-        let mut nothing = [0u8; 1];
-        if room < put_plan(layout, &mut nothing) {
-            return refusals::NO_ROOM;
-        }
-        return refusals::DONE;
+    let mut nothing = [0u8; 1];
+    if room < put_plan(layout, &mut nothing) {
+        return Err(Refusal::NoRoom);
     }
-    refusals::BAD_LAYOUT
+    Ok(())
 }

@@ -8,7 +8,7 @@ ghost use Rattle.layout.specs.Steps.{one};
 use crate::inner::steps;
 
 // How many fields there are, and how many bits they take.
-#[derive(Clone, Copy)]
+#[derive(Clone, Copy, Debug, PartialEq, Eq)]
 pub struct Size {
     pub fields: usize,
     pub bits: usize,
@@ -18,7 +18,7 @@ pub struct Size {
 fn ended(b: u8) -> u16
     ensures { result ≡ one b }
 {
-    if steps::ends(b) { 1 } else { 0 }
+    steps::ends(b) as u16
 }
 
 // How many fields a plan has, and how many bits they take. (Sums of 16 bits, which the compiler forms eight at a time.)
@@ -28,12 +28,9 @@ pub fn measure(plan: &[u8]) -> Size
 {
     let mut fields: u16 = 0;
     let mut bits: u16 = 0;
-    let mut i: usize = 0;
-    while i < plan.len() {
-        let b = plan[i];
+    for &b in plan {
         fields += ended(b);
         bits += (b % 64) as u16;
-        i += 1;
     }
     Size {
         fields: fields as usize,

@@ -13,5 +13,5 @@ pub fn count(b: u8) -> u32
 pub fn ends(b: u8) -> bool
     ensures { result ≡ ends_of b }
 {
-    if b >= 64 { b < 192 } else { false }
+    64 <= b && b < 192
 }

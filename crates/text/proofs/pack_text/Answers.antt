@@ -1,24 +1,20 @@
 -- `pack_text` meets its contract: a refusal changes nothing, and what is not refused is good and has room (`pack_passed`). Assumes nothing.
-use mathlib.Core.Path.{sym, ap, ◌∙◌}
+use mathlib.Core.Path.{refl, sym, ap, ◌∙◌}
 use lib.ListN.{length}
-use Rattle.text.specs.declared.inner.Found.{Found}
-use Rattle.text.proofs.AnswerLaws.{pack_passed, pack_refused, pack_done}
+use Rattle.text.specs.Answers.{Found, packed_told}
+use Rattle.text.proofs.AnswerLaws.{told_on, pack_passed, pack_error, pack_done}
 use Rattle.text.proofs.pack_text.Goals as goal
 
-pub returns-then-found-ne-DONE : goal.returns-then-found-ne-DONE
-returns-then-found-ne-DONE c =
-    let both = (let a = c.args in
-    pack_refused a.text.now a.out.now c.pack_refusal-found.ensures c.if-found-ne-DONE.true) in record { answer = both.0; memory = both.1 }
+pub returns-in_err-check_pack : goal.returns-in_err-check_pack
+returns-in_err-check_pack c =
+    let (answer, memory) = pack_error c.args.text.now c.args.out.now _ c.in_err-check_pack.ensures in
+    record { answer = ap packed_told (told_on _ _ c.from_residual.ensures.1) ∙ answer; memory = memory }
 
 pub put_records-requires : goal.put_records-requires
-put_records-requires c =
-    let left = c in
-    let a = left.args in
-    pack_passed a.text.now (length a.out.now) (sym (ap (λ (x : Found). x.refusal) left.pack_refusal-found.ensures) ∙ left.if-found-ne-DONE.false)
+put_records-requires c = pack_passed c.args.text.now (length c.args.out.now) (sym (ap (λ (x : Found). x.refusal) c.in_ok-check_pack.ensures))
 
 pub returns : goal.returns
 returns c =
-    let both = (let stored = c.put_records in
-    let left = c in
-    let a = left.args in
-    pack_done a.text.now a.out.now left.pack_refusal-found.ensures left.if-found-ne-DONE.false stored.ensures.answer stored.ensures.memory) in record { answer = both.0; memory = both.1 }
+    let put = c.put_records.ensures in
+    let (answer, memory) = pack_done c.args.text.now c.args.out.now c.in_ok-check_pack.ensures refl put.answer put.memory in
+    record { answer = answer; memory = memory }

@@ -1,16 +1,8 @@
 -- `distance_at` meets its contract: behind a minus the number is read one byte on and taken below zero (`minus_stands`); with none it lies
 -- as far above zero (`plus_stands`). Assumes nothing.
 use Rattle.std.proofs.Common.{drop, sym, ◌∙◌, arith}
-use Rattle.digits.specs.Digits.{minus}
-use Rattle.digits.proofs.PlaceLaws.{starts-within}
 use Rattle.line.proofs.PlaceLaws.{thousandths_small, minus_stands, plus_stands}
 use Rattle.line.proofs.inner.distance_at.Goals as goal
-
-pub thousandths_at-number-requires : goal.thousandths_at-number-requires
-thousandths_at-number-requires c =
-    let a = c.args in
-    let w = starts-within a.src.now a.at minus (sym c.starts_at.ensures ∙ c.if-starts_at.true) in
-    omega arith
 
 pub returns-then-starts_at : goal.returns-then-starts_at
 returns-then-starts_at c =

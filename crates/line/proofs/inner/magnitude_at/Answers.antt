@@ -1,10 +1,7 @@
 -- `magnitude_at` meets its contract: a magnitude of 64 bits is found again from its distance (`distance_stands`). Assumes nothing.
+use Rattle.std.proofs.Common.{refl}
 use Rattle.line.proofs.PlaceLaws.{distance_stands}
 use Rattle.line.proofs.inner.magnitude_at.Goals as goal
 
 pub returns : goal.returns
-returns c =
-    let a = c.args in
-    let d = c.distance_at-distance in
-    let v = c.wrapping_add_u64 in
-    distance_stands a.src.now a.at d.result v.result d.ensures v.ensures.value
+returns c = let d = c.distance_at-distance in distance_stands c.args.src.now c.args.at d.result _ d.ensures refl

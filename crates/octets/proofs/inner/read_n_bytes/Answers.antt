@@ -12,8 +12,7 @@ use Rattle.octets.proofs.inner.read_n_bytes.Goals as goal
 
 pub straddle_from-requires : goal.straddle_from-requires
 straddle_from-requires c =
-    let s = c in
-    let a = s.args in
+    let a = c.args in
     let o = a.order in
     let within : ℕ → Type 0 = λ k. k + length a.out.now ≤ length a.src.now in
     rw (c.by_order-high.ensures, c.by_order-low.ensures, c.by_order.ensures) (
@@ -26,11 +25,10 @@ straddle_from-requires c =
 pub returns : goal.returns
 unfolding octets
 returns c =
-    let bytes = c in
-    let a = bytes.args in
+    let a = c.args in
     let o = a.order in
     let t = a.src.now in
-    let b : (i : ℕ) → get_or t i 0 < 2 ^ 8 = λ i. (bytes.shared_slice_known-1.given i).fits in
+    let b : (i : ℕ) → get_or t i 0 < 2 ^ 8 = λ i. (c.type_inv.src i).fits in
     rw (c.by_order-high.ensures, c.by_order-low.ensures, c.by_order.ensures) at c.straddle_from.ensures
     ∙ firsts_same (λ i. straddled (get_or t (by_order o (a.at + 1) a.at + i) 0) (get_or t (by_order o a.at (a.at + 1) + i) 0) (by_order o (8 - a.n) a.n))
     (λ i. field o t (8 * a.at + a.n + 8 * i) 8) (length a.out.now) (λ i h. straddled-field o t b a.at a.n i (omega arith))

@@ -1,5 +1,5 @@
 -- `straddle_from` meets its contract: each turn puts the next straddle behind those that stand already (`Upto`). Assumes nothing.
-use Prim.Native.Nat.{ℕ, ◌+◌, ◌-◌}
+use Prim.Native.Nat.{ℕ, ◌+◌}
 use mathlib.Core.List.{List}
 use lib.ListN.{length, get_or}
 use Rattle.octets.specs.Octets.{straddled}
@@ -12,6 +12,3 @@ byte src high low k i = straddled (get_or src (high + i) 0) (get_or src (low + i
 
 abbrev pub invariant-loop-i : goal.invariant-loop-i
 invariant-loop-i l = Upto (byte l.src l.high l.low l.k) (length l.initial.out) l.out l.i
-
-abbrev pub decreases-loop-i : goal.decreases-loop-i
-decreases-loop-i l = length l.out - l.i

@@ -10,26 +10,11 @@ use Rattle.packing.specs.Packing.{bytes_of}
 use Rattle.packing.proofs.HeldLaws.{store_step}
 use Rattle.packing.proofs.inner.store.Goals as goal
 
-pub overflow_add-end : goal.overflow_add-end
-overflow_add-end c = omega arith
-
 pub loop-k-init : goal.loop-k-init
 loop-k-init c =
     let a = c.args in
     let e : a.at + a.n - a.at ≡ a.n = omega arith in
-    (omega arith, omega arith, refl, c.ranges.word.fits, ap (λ (m : ℕ). sets a.out.now a.at (bytes_of Little m (64 - 8 * m) a.word)) e)
-
-pub overflow_cast-out : goal.overflow_cast-out
-overflow_cast-out c = omega arith
-
-pub bounds-out-k : goal.bounds-out-k
-bounds-out-k c = omega arith
-
-pub overflow_add-k : goal.overflow_add-k
-overflow_add-k c = omega arith
-
-pub loop-k-smaller : goal.loop-k-smaller
-loop-k-smaller c = omega arith
+    (refl, c.ranges.word.fits, ap (λ (m : ℕ). sets a.out.now a.at (bytes_of Little m (64 - 8 * m) a.word)) e)
 
 pub loop-k-preserved : goal.loop-k-preserved
 unfolding first skipped
@@ -39,16 +24,11 @@ loop-k-preserved c =
     let left : ℕ = a.at + a.n - l.k in
     let p : 0 < left = omega arith in
     let e : a.at + a.n - (l.k + 1) ≡ left - 1 = omega arith in (
+      length-set l.out l.k (l.left % 256) ∙ l.invariant.0,
       omega arith,
-      omega arith,
-      length-set l.out l.k (l.v % 256) ∙ l.invariant.2,
-      omega arith,
-      ap (λ (m : ℕ). sets (set l.out l.k (l.v % 256)) (l.k + 1) (bytes_of Little m (64 - 8 * m) (l.v / 256))) e
-          ∙ store_step Little l.out l.k left l.v p l.invariant.1 l.invariant.3 ∙ l.invariant.4,
+      ap (λ (m : ℕ). sets (set l.out l.k (l.left % 256)) (l.k + 1) (bytes_of Little m (64 - 8 * m) (l.left / 256))) e
+          ∙ store_step Little l.out l.k left l.left p (omega arith) l.invariant.1 ∙ l.invariant.2,
     )
-
-pub shape_of-out : goal.shape_of-out
-shape_of-out c = omega arith
 
 pub returns : goal.returns
 unfolding bytes_of
@@ -56,4 +36,4 @@ returns c =
     let l = c.loop-k in
     let a = c.args in
     let e : 0 ≡ a.at + a.n - l.k = omega arith in
-    ap (λ (m : ℕ). sets l.out l.k (bytes_of Little m (64 - 8 * m) l.v)) e ∙ l.invariant.4
+    ap (λ (m : ℕ). sets l.out l.k (bytes_of Little m (64 - 8 * m) l.left)) e ∙ l.invariant.2

@@ -1,6 +1,6 @@
 -- `store` meets its contract: what is still to be stored from here is what was to be stored at first (`store_step`). Assumes nothing.
 use mathlib.Core.Path.{◌≡◌}
-use Prim.Native.Nat.{◌-◌, ◌*◌, ◌^◌, ◌<◌, ◌≤◌}
+use Prim.Native.Nat.{◌+◌, ◌-◌, ◌*◌, ◌^◌, ◌<◌}
 use lib.ListN.{length}
 use lib.Seq.{sets}
 use Rattle.bits.specs.declared.Order.TheVariants.{Little}
@@ -9,8 +9,6 @@ use Rattle.packing.proofs.inner.store.Given as goal
 
 abbrev pub invariant-loop-k : goal.invariant-loop-k
 invariant-loop-k l =
-    (l.k ≤ l.end) × (l.end - l.k ≤ 8) × (length l.out ≡ length l.initial.out) × (l.v < 2 ^ 64)
-    × (sets l.out l.k (bytes_of Little (l.end - l.k) (64 - 8 * (l.end - l.k)) l.v) ≡ sets l.initial.out l.at (bytes_of Little l.n (64 - 8 * l.n) l.word))
-
-abbrev pub decreases-loop-k : goal.decreases-loop-k
-decreases-loop-k l = l.end - l.k
+    (length l.out ≡ length l.initial.out) × (l.left < 2 ^ 64)
+    × (sets l.out l.k (bytes_of Little (l.at + l.n - l.k) (64 - 8 * (l.at + l.n - l.k)) l.left)
+    ≡ sets l.initial.out l.at (bytes_of Little l.n (64 - 8 * l.n) l.word))

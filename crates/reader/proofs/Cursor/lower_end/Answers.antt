@@ -1,12 +1,14 @@
 -- `lower_end` meets its contract: an end that is not refused replaces the cursor's. Assumes nothing.
-use Rattle.bits.proofs.RefusalLaws.{answer_refused, answer_done}
+use mathlib.Core.Path.{refl}
+use Rattle.bits.proofs.RefusalLaws.{handed_on, number_ne, answer_refused, answer_done}
 use Rattle.reader.specs.Answers.{lower_of, moved}
 use Rattle.reader.proofs.Cursor.lower_end.Goals as goal
 
-pub returns-then-refusal-ne-DONE : goal.returns-then-refusal-ne-DONE
+pub returns-in_err-check_lower : goal.returns-in_err-check_lower
 unfolding lower_of
-returns-then-refusal-ne-DONE c = answer_refused c.lower_refusal-refusal.ensures moved _ _ c.if-refusal-ne-DONE.true
+returns-in_err-check_lower c =
+    rw (handed_on _ _ c.from_residual.ensures.1) (answer_refused c.in_err-check_lower.ensures moved _ _ (number_ne _))
 
 pub returns : goal.returns
 unfolding lower_of
-returns c = answer_done c.lower_refusal-refusal.ensures moved _ _ c.if-refusal-ne-DONE.false c.ending_at.ensures
+returns c = answer_done c.in_ok-check_lower.ensures moved _ _ refl c.ending_at.ensures

@@ -1,12 +1,13 @@
 -- `partial` meets its contract: the bits of a cursor's partial byte, fewer than eight, are peeked. Assumes nothing.
 use Prim.Native.Nat.{ℕ, ◌%◌, ◌<◌, ◌^◌, ◌≤◌}
-use mathlib.Core.Path.{sym, ap, ◌∙◌, subst}
+use mathlib.Core.Path.{refl, sym, ap, ◌∙◌, subst}
 use native.Mathlib.Nat.{lt_of_lt_of_le}
 use native.Mathlib.Omega.{arith}
 use lib.Pow.{pow_mono}
 use Rattle.bits.specs.Field.{field}
+use Rattle.bits.specs.Refusals.{told_by}
 use Rattle.bits.proofs.FieldLaws.{field_lt}
-use Rattle.bits.proofs.RefusalLaws.{if_refused, if_done_lem}
+use Rattle.bits.proofs.RefusalLaws.{handed_on, number_ne, answer_refused, answer_done}
 use Rattle.counts.specs.Counts as C
 use Rattle.lookahead.specs.declared.State.{State}
 use Rattle.lookahead.specs.State.{counts_of, Belongs}
@@ -15,16 +16,15 @@ use Rattle.reader.specs.Answers.{partial_of}
 use Rattle.reader.proofs.AnswerLaws.{remainder_granted}
 use Rattle.reader.proofs.Cursor.partial.Goals as goal
 
-pub returns-then-refusal-ne-DONE : goal.returns-then-refusal-ne-DONE
+pub returns-in_err-check_remainder : goal.returns-in_err-check_remainder
 unfolding partial_of
-returns-then-refusal-ne-DONE c =
-    let e = c.remainder_refusal-refusal.ensures in
-    (λ i. record { refusal = e i; partial_bits = 0; partial_byte = 0 }) ∙ if_refused e _ _ c.if-refusal-ne-DONE.true
+returns-in_err-check_remainder c =
+    rw (handed_on _ _ c.from_residual.ensures.1) (answer_refused c.in_err-check_remainder.ensures told_by _ _ (number_ne _))
 
 pub peek-requires : goal.peek-requires
 peek-requires c =
     let a = c.args in
-    let (h, _) = remainder_granted _ _ _ (sym c.remainder_refusal-refusal.ensures ∙ c.if-refusal-ne-DONE.false) in
+    let (h, _) = remainder_granted _ _ _ (sym c.in_ok-check_remainder.ensures) in
     subst (λ (t : State). Belongs a.order a.src.now t × (a.self.lookahead % 8 ≤ t.lookahead)) (sym c.state_in.ensures)
     (own_state h, omega arith)
 
@@ -40,5 +40,4 @@ returns c =
     let a = c.args in
     let n : ℕ = a.self.lookahead % 8 in
     let v = c.peek.ensures ∙ ap (λ (t : State). field a.order a.src.now (C.place (counts_of t)) n) c.state_in.ensures in
-    (λ i. record { refusal = 0; partial_bits = n; partial_byte = v i })
-    ∙ if_done_lem c.remainder_refusal-refusal.ensures _ _ c.if-refusal-ne-DONE.false
+    answer_done c.in_ok-check_remainder.ensures told_by _ _ refl (λ i. record { partial_bits = n; partial_byte = v i })

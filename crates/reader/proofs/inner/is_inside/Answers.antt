@@ -1,58 +1,54 @@
 -- `is_inside` meets its contract: its tests are those of the definition, one after the other. Assumes nothing.
-use mathlib.Core.Path.{◌≡◌, sym, ap, ◌∙◌, subst}
-use Prim.Native.Nat.{◌≤◌}
+use mathlib.Core.Path.{◌≡◌, sym, ap, ◌∙◌}
+use mathlib.Core.Bool.{Bool}
+use Rattle.std.proofs.Common.{rules}
+use Prim.Native.Nat.{ℕ}
 use native.Mathlib.Omega.{arith}
 use lib.ListN.{length}
 use lib.Dec.{eqb}
 use borrow.Author.Tests.{le-leb, lt-leb}
 use Rattle.counts.specs.declared.Counts.{Counts}
-use Rattle.counts.specs.Counts.{Within}
 use Rattle.lookahead.specs.State.{register_of}
 use Rattle.lookahead.proofs.StateLaws.{inside_is}
+use Rattle.reader.specs.declared.Cursor.{Cursor}
 use Rattle.reader.specs.Cursor.{counts_in, inside_end, is_inside}
 use Rattle.reader.proofs.ReadLaws.{end_is}
 use Rattle.reader.proofs.inner.is_inside.Goals as goal
-use Rattle.reader.proofs.inner.is_inside.Goals.{After-struct_known-1, Else-inside_end, Then-inside_end}
+use Rattle.reader.proofs.inner.is_inside.Goals.{then-bits-le56, else-bits-le56}
 
--- what the test of the counts is
-told_1 : (c : Then-inside_end) → let a = c.args in c.inside_end.result ≡ inside_end (length a.src.now) a.c.end (counts_in a.c)
-told_1 c =
-    let a = c.args in
-    c.inside_end.ensures ∙ ap (inside_end (length a.src.now) a.c.end) c.counts_in-k.ensures
+-- what the test of a cursor's counts says
+told : (len : ℕ) (c : Cursor) {k : Counts} {b v t : Bool} → k ≡ counts_in c → b ≡ inside_end len c.end k → v ≡ b → v ≡ t
+    → inside_end len c.end (counts_in c) ≡ t
+told len c f e g h = sym (ap (inside_end len c.end) f) ∙ sym e ∙ sym g ∙ h
 
 pub register_behind-requires : goal.register_behind-requires
 register_behind-requires c =
     let a = c.args in
-    let (within, _, _) = end_is (length a.src.now) a.c.end (counts_in a.c) (sym (told_1 c) ∙ c.if-inside_end.true) in
-    let i = inside_is (length a.src.now) (counts_in a.c) within in
-    subst (λ (k : Counts). Within (length a.src.now) k × (8 ≤ k.offset)) (sym c.counts_in-k.ensures)
-    (record { fetched = omega (arith, i.1); small = i.3; behind = omega (arith, i.2, i.3) }, i.2)
-
--- what the test of the counts is
-told_2 : (c : After-struct_known-1) → let a = c.args in c.inside_end.result ≡ inside_end (length a.src.now) a.c.end (counts_in a.c)
-told_2 c =
-    let a = c.args in
-    c.inside_end.ensures ∙ ap (inside_end (length a.src.now) a.c.end) c.counts_in-k.ensures
+    elim c.if-bits-le56.branch [
+      | then-bits-le56 w ↦
+          let (within, _, _) = end_is (length a.src.now) a.c.end _ (sym w.inside_end.ensures ∙ sym w.value-is ∙ c.if-inside_end.true) in
+          let i = inside_is (length a.src.now) _ within in
+          (record { fetched = omega (arith, i.1); small = i.3; behind = omega (arith, i.2, i.3) }, i.2)
+      | else-bits-le56 w ↦ search rules
+    ]
 
 pub returns-then-inside_end : goal.returns-then-inside_end
 unfolding is_inside
 returns-then-inside_end c =
-    let c₂ = c in
-    let a = c₂.args in
-    let k = c₂.counts_in-k.ensures in
-    rw (le-leb _ _ c₂.if-bits-le56.true, sym (told_2 c₂) ∙ c₂.if-inside_end.true)
-    (ap (eqb a.c.register) (c.register_behind.ensures ∙ ap (register_of a.order a.src.now) k))
-
--- what the test of the counts is
-told_3 : (c : Else-inside_end) → let a = c.args in c.inside_end.result ≡ inside_end (length a.src.now) a.c.end (counts_in a.c)
-told_3 c =
     let a = c.args in
-    c.inside_end.ensures ∙ ap (inside_end (length a.src.now) a.c.end) c.counts_in-k.ensures
+    elim c.if-bits-le56.branch [
+      | then-bits-le56 w ↦
+          rw (le-leb _ _ w.if-bits-le56.true, told (length a.src.now) a.c c.counts_in-k.ensures w.inside_end.ensures w.value-is c.if-inside_end.true)
+          (ap (eqb a.c.register) (c.register_behind.ensures ∙ ap (register_of a.order a.src.now) c.counts_in-k.ensures))
+      | else-bits-le56 w ↦ search rules
+    ]
 
-pub returns-then-bits-le56 : goal.returns-then-bits-le56
+pub returns-else-inside_end : goal.returns-else-inside_end
 unfolding is_inside
-returns-then-bits-le56 c = simp (le-leb _ _ c.if-bits-le56.true, sym (told_3 c) ∙ c.if-inside_end.false)
-
-pub returns : goal.returns
-unfolding is_inside
-returns c = simp (lt-leb _ _ c.if-bits-le56.false)
+returns-else-inside_end c =
+    let a = c.args in
+    elim c.if-bits-le56.branch [
+      | then-bits-le56 w ↦
+          rw (le-leb _ _ w.if-bits-le56.true, told (length a.src.now) a.c c.counts_in-k.ensures w.inside_end.ensures w.value-is c.if-inside_end.false) c.if-inside_end.false
+      | else-bits-le56 w ↦ rw (lt-leb _ _ w.if-bits-le56.false) c.if-inside_end.false
+    ]

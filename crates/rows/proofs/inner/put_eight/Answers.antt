@@ -1,25 +1,22 @@
 -- `put_eight` meets its contract: each row stands behind those before it (`one_more`). Assumes nothing.
-use Prim.Native.Nat.{◌*◌}
-use lib.Seq.{length-sets}
-use Rattle.rows.proofs.StripRowsLaws.{no_row, one_more}
+use mathlib.Core.Path.{◌≡◌, ap, ◌∙◌}
+use Prim.Native.Nat.{ℕ, ◌*◌}
+use native.Mathlib.Omega.{arith}
+use lib.Seq.{sets, length-sets}
+use Rattle.rows.proofs.StripRowsLaws.{rows_from, no_row, one_more}
 use Rattle.rows.proofs.inner.put_eight.Goals as goal
+
+pub loop-k-init : goal.loop-k-init
+loop-k-init c = let a = c.args in no_row a.src.now a.out.now (8 * a.byte) a.at
+
+pub loop-k-preserved : goal.loop-k-preserved
+loop-k-preserved c = let a = c.args in one_more a.src.now a.out.now (8 * a.byte) a.at c.loop-k.k _ _ c.loop-k.invariant c.put_nth.ensures
 
 pub returns : goal.returns
 returns c =
-    let eighth = c in
-    let seventh = eighth in
-    let sixth = seventh in
-    let fifth = sixth in
-    let fourth = fifth in
-    let third = fourth in
-    let second = third in
-    let first = second in
-    let a = first.args in
-    let more = one_more a.src.now a.out.now (8 * a.byte) a.at in
-    let two = more 1 _ _ (more 0 _ _ (no_row a.src.now a.out.now (8 * a.byte) a.at) first.put_nth.ensures) second.put_nth-2.ensures in
-    let four = more 3 _ _ (more 2 _ _ two third.put_nth-3.ensures) fourth.put_nth-4.ensures in
-    let six = more 5 _ _ (more 4 _ _ four fifth.put_nth-5.ensures) sixth.put_nth-6.ensures in
-    more 7 _ _ (more 6 _ _ six seventh.put_nth-7.ensures) eighth.put_nth-8.ensures
+    let a = c.args in
+    let all : c.loop-k.k ≡ 8 = omega arith in
+    c.loop-k.invariant ∙ ap (λ (k : ℕ). sets a.out.now a.at (rows_from a.src.now (8 * a.byte) k)) all
 
 pub shape_of-out : goal.shape_of-out
 shape_of-out c = rw (returns c, length-sets)

@@ -1,6 +1,6 @@
 -- `put_numbers` meets its contract: what is still to be stored from here is what was to be stored at first. Assumes nothing.
 use mathlib.Core.Path.{◌≡◌}
-use Prim.Native.Nat.{◌+◌, ◌-◌, ◌*◌, ◌≤◌}
+use Prim.Native.Nat.{◌-◌, ◌*◌}
 use lib.ListN.{length}
 use lib.Seq.{sets}
 use Rattle.record.specs.Record.{record_bits}
@@ -9,8 +9,5 @@ use Rattle.strip.proofs.inner.put_numbers.Given as goal
 
 abbrev pub invariant-loop-i : goal.invariant-loop-i
 invariant-loop-i l =
-    (l.i ≤ l.count) × (l.place + record_bits * (l.count - l.i) ≤ 8 * length l.src) × (l.at + 6 * (l.count - l.i) ≤ length l.numbers) × (length l.numbers ≡ length l.initial.numbers)
-    × (sets l.numbers l.at (all_numbers (records_from l.src l.place (l.count - l.i))) ≡ sets l.initial.numbers 0 (all_numbers (records_from l.src 0 l.count)))
-
-abbrev pub decreases-loop-i : goal.decreases-loop-i
-decreases-loop-i l = l.count - l.i
+    (length l.numbers ≡ length l.initial.numbers)
+    × (sets l.numbers (6 * l.i) (all_numbers (records_from l.src (record_bits * l.i) (l.count - l.i))) ≡ sets l.initial.numbers 0 (all_numbers (records_from l.src 0 l.count)))

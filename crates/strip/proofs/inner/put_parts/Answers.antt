@@ -1,10 +1,10 @@
 -- `put_parts` meets its contract: six stores, one behind the other. Assumes nothing.
 use mathlib.Core.Path.{ap, ◌∙◌}
 use mathlib.Core.List.{[], ◌∷◌}
-use Prim.Native.Nat.{ℕ, ◌/◌, ◌%◌, ◌^◌}
 use native.Mathlib.Omega.{arith}
 use lib.ListN.{length-set}
 use lib.Seq.{sets}
+use Rattle.record.specs.declared.inner.Numbers.{Numbers}
 use Rattle.strip.proofs.ListLaws.{six_stored}
 use Rattle.strip.proofs.inner.put_parts.Goals as goal
 
@@ -30,4 +30,4 @@ pub returns : goal.returns
 returns c =
     let a = c.args in
     six_stored a.numbers.now a.at _ _ _ _ _ _
-    ∙ ap (λ (m : ℕ). sets a.numbers.now a.at (a.star ∷ a.date ∷ a.rest / 2 ^ 30 ∷ m ∷ a.rest / 2 ^ 4 % 2 ^ 10 ∷ a.rest % 2 ^ 4 ∷ [])) c.widened.ensures
+    ∙ ap (λ (six : Numbers). sets a.numbers.now a.at (six.star ∷ six.date ∷ six.limit ∷ six.magnitude ∷ six.error ∷ six.filter ∷ [])) c.numbers_in-six.ensures

@@ -19,6 +19,6 @@ returns-then-bits-lt8 c =
     let e : n - n % record_bits ≡ record_bits * (n / record_bits) = omega arith in
     rw (lt-ltb (n % record_bits) 8 c.if-bits-lt8.true) (ap (λ (v : ℕ). eqb v 0) (c.short_field.ensures ∙ ap (λ (p : ℕ). field Big s p (n % record_bits)) e))
 
-pub returns : goal.returns
+pub returns-else-bits-lt8 : goal.returns-else-bits-lt8
 unfolding tail_good
-returns c = rw (le-ltb _ _ c.if-bits-lt8.false)
+returns-else-bits-lt8 c = rw (le-ltb _ _ c.if-bits-lt8.false)

@@ -1,8 +1,7 @@
 -- `verdict` meets its contract: the verdict on the records still to come, below the last one's date, is that on all (`next_verdict`).
 -- Assumes nothing.
-use Prim.Native.Nat.{◌+◌, ◌-◌, ◌*◌, ◌≤◌}
+use Prim.Native.Nat.{◌+◌, ◌-◌, ◌*◌}
 use mathlib.Core.Path.{◌≡◌}
-use lib.ListN.{length}
 use Rattle.record.specs.Record.{record_bits}
 use Rattle.strip.specs.Strip.{records_from, tail_good}
 use Rattle.vetting.specs.Verdicts.{verdict_from}
@@ -10,8 +9,4 @@ use Rattle.vetting.proofs.inner.verdict.Given as goal
 
 abbrev pub invariant-loop-i : goal.invariant-loop-i
 invariant-loop-i l =
-    (l.i ≤ l.count) × (l.place + record_bits * (l.count - l.i) ≤ 8 * length l.strip)
-    × (verdict_from (l.i + 1) l.above (records_from l.strip l.place (l.count - l.i)) (tail_good l.strip) ≡ verdict_from 1 0 (records_from l.strip 0 l.count) (tail_good l.strip))
-
-abbrev pub decreases-loop-i : goal.decreases-loop-i
-decreases-loop-i l = l.count - l.i
+    verdict_from (l.i + 1) l.above (records_from l.strip (record_bits * l.i) (l.count - l.i)) (tail_good l.strip) ≡ verdict_from 1 0 (records_from l.strip 0 l.count) (tail_good l.strip)

@@ -9,8 +9,7 @@ returns-in-Little c = rw c.in-Little.is c.load_little.ensures
 
 pub returns-in-Big : goal.returns-in-Big
 returns-in-Big c =
-    let known = c in
-    let a = known.args in
+    let a = c.args in
     rw c.in-Big.is
     (c.swap8.ensures ∙ ap swapped c.load_little-in-Big.ensures
-    ∙ swapped-field a.src.now a.at (λ i. (known.shared_slice_known-1.given i).fits))
+    ∙ swapped-field a.src.now a.at (λ i. (c.type_inv.src i).fits))

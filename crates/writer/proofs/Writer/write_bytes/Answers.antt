@@ -1,28 +1,26 @@
 -- `Writer::write_bytes` meets its contract: a write that is not refused puts the bytes. Assumes nothing.
-use mathlib.Core.Path.{sym, ◌∙◌}
-use lib.ListN.{length}
+use mathlib.Core.Path.{sym}
+use Rattle.bits.proofs.RefusalLaws.{handed_on}
 use Rattle.writer.specs.Answers.{bytes_of, bytes_out}
 use Rattle.writer.proofs.AnswerLaws.{bytes_passed, refused, answered}
 use Rattle.writer.proofs.Writer.write_bytes.Goals as goal
 
-pub put_bytes-requires : goal.put_bytes-requires
-put_bytes-requires c =
-    let b = c in
-    let a = b.args in
-    let h = bytes_passed (length a.out.now) a.self (length a.buf.now) (sym b.bytes_refusal-refusal.ensures ∙ c.if-refusal-eq-DONE.true) in
+pub returns-in_err-check_bytes : goal.returns-in_err-check_bytes
+unfolding bytes_of bytes_out
+returns-in_err-check_bytes c =
+    let both = refused c.args.self c.args.out.now (handed_on _ _ c.from_residual.ensures.1) c.in_err-check_bytes.ensures _ _ in
+    record { answer = both.0; memory = both.1 }
+
+pub put_bytes-state-requires : goal.put_bytes-state-requires
+put_bytes-state-requires c =
+    let h = bytes_passed _ _ _ (sym c.in_ok-check_bytes.ensures) in
     rw c.state_in.ensures (h.belongs, h.enough)
 
-pub returns-then-refusal-eq-DONE : goal.returns-then-refusal-eq-DONE
+pub returns : goal.returns
 unfolding bytes_of bytes_out
-returns-then-refusal-eq-DONE c =
-    let p = c.put_bytes in
-    let st = c.state_in in
-    let t = c in
-    let a = t.args in
-    rw (← st.ensures)
-    (let both = (answered a.self a.out.now t.bytes_refusal-refusal.ensures t.if-refusal-eq-DONE.true c.writer_with-self.ensures p.ensures.answer p.ensures.memory) in record { answer = both.0; memory = both.1 })
-
-pub returns-else-refusal-eq-DONE : goal.returns-else-refusal-eq-DONE
-unfolding bytes_of bytes_out
-returns-else-refusal-eq-DONE c =
-    let both = (let a = c.args in refused a.self a.out.now c.bytes_refusal-refusal.ensures _ _ c.if-refusal-eq-DONE.false) in record { answer = both.0; memory = both.1 }
+returns c =
+    let a = c.args in
+    let p = c.put_bytes-state.ensures in
+    rw (← c.state_in.ensures)
+    (let both = answered a.self a.out.now c.in_ok-check_bytes.ensures c.writer_with.ensures p.answer p.memory in
+    record { answer = both.0; memory = both.1 })

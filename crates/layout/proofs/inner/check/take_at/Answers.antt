@@ -2,17 +2,12 @@
 use Rattle.layout.proofs.TakeLaws.{taken_plain, taken_late, taken_none}
 use Rattle.layout.proofs.inner.check.take_at.Goals as goal
 
+pub returns-then-b-ne0 : goal.returns-then-b-ne0
+returns-then-b-ne0 c = rw c.taken.ensures (taken_plain c.args.p.now c.args.i c.args.g c.requires.0 c.requires.1 c.if-b-ne0.true)
+
 pub returns-then-i-p : goal.returns-then-i-p
 returns-then-i-p c =
-    let s = c in
-    rw c.taken.ensures (taken_late s.args.p.now s.args.i s.args.g s.requires.0 s.requires.1 c.if-b-eq0.true c.if-i-p.true)
-
-pub returns-then-b-eq0 : goal.returns-then-b-eq0
-returns-then-b-eq0 c =
-    let s = c in
-    taken_none s.args.p.now s.args.i s.args.g s.requires.0 s.requires.1 c.if-b-eq0.true c.if-i-p.false
+    rw c.taken-then-i-p.ensures (taken_late c.args.p.now c.args.i c.args.g c.requires.0 c.requires.1 c.if-b-ne0.false c.if-i-p.true)
 
 pub returns : goal.returns
-returns c =
-    let s = c in
-    rw c.taken-2.ensures (taken_plain s.args.p.now s.args.i s.args.g s.requires.0 s.requires.1 c.if-b-eq0.false)
+returns c = taken_none c.args.p.now c.args.i c.args.g c.requires.0 c.requires.1 c.if-b-ne0.false c.if-i-p.false

@@ -1,9 +1,0 @@
--- `given_little` is safe: the count goes down. Assumes nothing.
-use Prim.Native.Nat.{◌≤◌}
-use Rattle.bench.proofs.reads.given_little.Given as goal
-
-abbrev pub invariant-loop-left : goal.invariant-loop-left
-invariant-loop-left l = l.left ≤ l.n
-
-abbrev pub decreases-loop-left : goal.decreases-loop-left
-decreases-loop-left l = l.left

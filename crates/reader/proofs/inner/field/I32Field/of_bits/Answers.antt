@@ -1,0 +1,10 @@
+-- `of_bits` meets its contract: 32 bits are extended at 64, and the number fits 32 as a signed one. Assumes nothing.
+use mir.Syntax.{w32}
+use Rattle.sign.proofs.SignedLaws.{narrowed}
+use Rattle.reader.proofs.inner.field.I32Field.of_bits.Goals as goal
+
+pub overflow_cast-result : goal.overflow_cast-result
+overflow_cast-result c = (narrowed w32 c.args.bits c.requires (record { sfits = c.extend.type_inv }) c.extend.ensures).0
+
+pub returns : goal.returns
+returns c = (narrowed w32 c.args.bits c.requires (record { sfits = c.extend.type_inv }) c.extend.ensures).1

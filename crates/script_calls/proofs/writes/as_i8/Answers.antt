@@ -1,7 +1,0 @@
--- What 8 bits stand for fits 8 bits.
-use Rattle.std.proofs.Common.{arith, w8}
-use Rattle.sign.proofs.SignedLaws.{narrowed}
-use Rattle.script_calls.proofs.writes.as_i8.Goals as goal
-
-pub overflow_cast-result : goal.overflow_cast-result
-overflow_cast-result c = (narrowed w8 _ (omega arith) (record { sfits = c.extend.type_inv }) c.extend.ensures).0

@@ -1,0 +1,14 @@
+-- The output has room for every answer of the rows job (`rows_room`), so the answer stands at its front (`whole_answer`).
+use Rattle.std.proofs.Common.{le_trans}
+use Rattle.jobs.proofs.AnswerLaws.{told_whole, whole_answer}
+use Rattle.jobs.proofs.Theorems.{rows_room}
+use Rattle.striprows.proofs.RowsJob.answer.Goals as goal
+
+pub unwrap-requires : goal.unwrap-requires
+unwrap-requires c = told_whole _ _ c.requires.in_limit (le_trans (rows_room _) c.requires.has_room) _ c.rows_answer.ensures.answer
+
+pub returns : goal.returns
+returns c =
+    let told = c.rows_answer.ensures in
+    let (within, front) = whole_answer _ _ c.requires.in_limit (le_trans (rows_room _) c.requires.has_room) _ told.answer told.memory c.unwrap.ensures in
+    record { in_bounds = within; value = front }
