@@ -36,7 +36,7 @@ impl From<u64> for Fixed {
 
 impl Fixed {
     // The kind of its values; one bit has none.
-    pub fn kind(self) -> Option<Kind> {
+    pub(crate) fn kind(self) -> Option<Kind> {
         match self {
             Fixed::Bit => None,
             Fixed::U8 | Fixed::U16 | Fixed::U32 | Fixed::U64 => Some(Kind::Unsigned),
@@ -47,7 +47,7 @@ impl Fixed {
     }
 
     // How many bits it has.
-    pub fn width(self) -> u32 {
+    pub(crate) fn width(self) -> u32 {
         match self {
             Fixed::Bit => 1,
             Fixed::U8 | Fixed::I8 => 8,
@@ -58,7 +58,7 @@ impl Fixed {
     }
 
     // The low bits of a number as it takes them: as they are, or widened by their sign.
-    pub fn low_bits(self, n: u64) -> u64 {
+    pub(crate) fn low_bits(self, n: u64) -> u64 {
         match self {
             Fixed::Bit => n % 2,
             Fixed::U8 => n % 0x100,

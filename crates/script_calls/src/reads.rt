@@ -99,7 +99,7 @@ fn count(k: u64, c: Cursor, order: Order, src: &[u8]) -> Result<u64, Refusal> {
 }
 
 // A read with its value as 64 bits.
-pub fn bits_of<T: Copy, F: FnOnce(T) -> u64>(
+pub(crate) fn bits_of<T: Copy, F: FnOnce(T) -> u64>(
     read: Result<Read<T>, Refusal>,
     bits: F,
 ) -> Result<Read<u64>, Refusal>
@@ -113,7 +113,7 @@ pub fn bits_of<T: Copy, F: FnOnce(T) -> u64>(
 }
 
 // A move, which has the value 0.
-pub fn moved(next: Result<Cursor, Refusal>) -> Result<Read<u64>, Refusal> {
+pub(crate) fn moved(next: Result<Cursor, Refusal>) -> Result<Read<u64>, Refusal> {
     Ok(Read {
         value: 0,
         cursor: next?,
@@ -121,7 +121,7 @@ pub fn moved(next: Result<Cursor, Refusal>) -> Result<Read<u64>, Refusal> {
 }
 
 // A value that moves no cursor.
-pub fn seen(c: Cursor, value: Result<u64, Refusal>) -> Result<Read<u64>, Refusal> {
+pub(crate) fn seen(c: Cursor, value: Result<u64, Refusal>) -> Result<Read<u64>, Refusal> {
     Ok(Read {
         value: value?,
         cursor: c,
