@@ -1,7 +1,7 @@
 #!/usr/bin/env python3
 """Checks that what the pages cite exists. A span of code that is one name has to be a name of this repository: a function, type, field,
 constant or case of a source, a definition, law or sentence of specs/ and proofs/, an edit, a crate, a program, a file. A link has to lead
-to a file, and names right behind it have to stand there. And every edit has to stand in docs/CONTRACTS.md. The landings, docs/PORT.md and docs/DESIGN-PASS.md
+to a file, and names right behind it have to stand there. And every edit has to stand in docs/CONTRACTS.md. The landings, docs/PORT.md, docs/DESIGN-PASS.md and docs/LOOK-BACK.md
 tell what was, and are left out.
 
   tests/cited.py    says what is missing, with status 1
@@ -9,7 +9,7 @@ tell what was, and are left out.
 import glob, os, re, sys
 
 os.chdir(os.path.dirname(os.path.dirname(os.path.abspath(__file__))))
-PAGES = ['README.md'] + sorted(set(glob.glob('docs/*.md')) - {'docs/PORT.md', 'docs/DESIGN-PASS.md'})
+PAGES = ['README.md'] + sorted(set(glob.glob('docs/*.md')) - {'docs/PORT.md', 'docs/DESIGN-PASS.md', 'docs/LOOK-BACK.md'})
 # names that are not ours: the Rust's, the kit's, the language's, other programs', and placeholders of a text
 OTHERS = set(open('tests/cited.txt', encoding='utf-8').read().split())
 NAME = re.compile(r'[A-Za-z][\w·-]*')
