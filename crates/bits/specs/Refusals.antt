@@ -1,5 +1,5 @@
 -- The refusal numbers, in the order in which they win: where several apply, the lowest is given.
-use Rattle.std.specs.Prelude.{ℕ, Bool, cond, List, [], ◌∷◌, eqb, Result, Ok, Err}
+use Rattle.std.specs.Prelude.{ℕ, Bool, cond, List, [], ◌∷◌, eqb, Result, Ok, Err, codes}
 use Rattle.bits.specs.declared.Refusal.{Refusal}
 use Rattle.bits.specs.declared.Refusal.TheVariants as why
 
@@ -80,6 +80,23 @@ number why.BadRow = bad_row
 number why.BadEnd = bad_end
 number why.EndInByte = end_in_byte
 number why.RetiredKind = retired_kind
+
+-- what a refusal says of itself
+abbrev pub refusal_said : Refusal → List ℕ
+refusal_said why.TooLong = codes "a slice is longer than the limit"
+refusal_said why.Foreign = codes "the cursor or writer does not belong to the slice"
+refusal_said why.TooWide = codes "a width is above 64"
+refusal_said why.TooLarge = codes "a value does not fit its width"
+refusal_said why.BadLayout = codes "these bytes are no layout"
+refusal_said why.BadPlan = codes "no layout compiles to this plan"
+refusal_said why.BadLine = codes "a line breaks the line rules"
+refusal_said why.NoRoom = codes "the output has no room"
+refusal_said why.TooFew = codes "too few bits are left"
+refusal_said why.PastLookahead = codes "the lookahead has fewer bits"
+refusal_said why.BadRow = codes "a row says no record"
+refusal_said why.BadEnd = codes "the end is raised, or put before the place"
+refusal_said why.EndInByte = codes "the end is within a byte"
+refusal_said why.RetiredKind = codes "singles are written no more"
 
 -- the number of an outcome: that of its refusal, or done
 abbrev pub number_of : {A : Type 0} → Result A Refusal → ℕ

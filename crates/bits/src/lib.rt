@@ -1,8 +1,8 @@
 // The order of bits, the refusals, and the operations on 64 bits.
 #![tactic(auto)]
 
-ghost use Rattle.std.specs.Prelude.{◌≡◌};
-ghost use Rattle.bits.specs.Refusals.{number};
+ghost use Rattle.std.specs.Prelude.{◌≡◌, Some};
+ghost use Rattle.bits.specs.Refusals.{number, refusal_said};
 
 use std::error::Error;
 use std::fmt;
@@ -49,6 +49,8 @@ impl Refusal {
 }
 
 impl fmt::Display for Refusal {
+    ghost output = { λ why. Some (refusal_said why) };
+
     fn fmt<W: fmt::Write>(&self, f: &mut fmt::Formatter<W>) -> fmt::Result {
         f.write_str(match self {
             Refusal::TooLong => "a slice is longer than the limit",

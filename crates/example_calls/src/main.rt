@@ -203,17 +203,19 @@ fn borrowed(rt: &impl Print) -> Result<(), Refusal> {
     let start = Cursor::new(b"\xa5\x01")?;
 
     let moved = lent::refilled(start, Order::Big, b"\xa5\x01");
-    expect(rt, "inplace::refill_lookahead", moved.is_ok());
-    let full = moved?;
+    expect(rt, "inplace::refill_lookahead", moved.answer == Ok(()));
+    let full = moved.cursor;
 
     let seen = lent::peeked(full, Order::Big, b"\xa5\x01", 4);
     expect(rt, "inplace::peek", seen == Ok(10));
 
     let moved = lent::consumed(full, Order::Big, b"\xa5\x01", 17);
-    expect(rt, "inplace::consume", moved == Err(Refusal::PastLookahead));
+    let due = Err(Refusal::PastLookahead);
+    expect(rt, "inplace::consume", moved.answer == due);
 
     let moved = lent::lowered(start, Order::Big, b"\xa5\x01", 17);
-    expect(rt, "inplace::lower_end", moved == Err(Refusal::BadEnd));
+    let due = Err(Refusal::BadEnd);
+    expect(rt, "inplace::lower_end", moved.answer == due);
     Ok(())
 }
 
@@ -474,6 +476,9 @@ fn tables(rt: &impl Print) {
 
     let packed = rows::rows_to_strip(&table, &mut strip);
     expect(rt, "rows_to_strip", packed == Ok(Some(12)));
+
+    let third = rows::PackError::BadRow(3);
+    expect(rt, "rows::PackError::number", third.number() == 11);
 }
 
 fn lines(rt: &impl Print) {
@@ -495,6 +500,9 @@ fn texts(rt: &impl Print) {
 
     let packed = text::pack_text(b"star,date\n", &mut out);
     expect(rt, "pack_text", packed == Err(PackError::BadLine(1)));
+
+    let headless = PackError::BadLine(1);
+    expect(rt, "text::PackError::number", headless.number() == 7);
 }
 
 fn whole_jobs(rt: &impl Print) {

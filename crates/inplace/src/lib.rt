@@ -20,7 +20,8 @@ pub fn peek(cursor: &Cursor, order: Order, src: &[u8], count: u32) -> Result<u64
 
 // Takes the first bits off the lookahead. Refusals 1, 2 and 10.
 //     let moved = lent::consumed(full, Order::Big, b"\xa5\x01", 17);
-//     expect(b"inplace::consume", moved == Err(Refusal::PastLookahead));
+//     let due = Err(Refusal::PastLookahead);
+//     expect(b"inplace::consume", moved.answer == due);
 pub fn consume(cursor: &mut Cursor, order: Order, src: &[u8], count: u32) -> Result<(), Refusal>
     ensures { moved (number_of result) cursor.new ≡ consume_of order src.now cursor.old count }
 {
@@ -30,7 +31,7 @@ pub fn consume(cursor: &mut Cursor, order: Order, src: &[u8], count: u32) -> Res
 
 // Fetches as many whole bytes as the slice and 63 bits allow. Refusals 1 and 2.
 //     let moved = lent::refilled(start, Order::Big, b"\xa5\x01");
-//     expect(b"inplace::refill_lookahead", moved.is_ok());
+//     expect(b"inplace::refill_lookahead", moved.answer == Ok(()));
 pub fn refill_lookahead(cursor: &mut Cursor, order: Order, src: &[u8]) -> Result<(), Refusal>
     ensures { moved (number_of result) cursor.new ≡ refill_of order src.now cursor.old }
 {
@@ -40,7 +41,8 @@ pub fn refill_lookahead(cursor: &mut Cursor, order: Order, src: &[u8]) -> Result
 
 // Lowers the end, behind which nothing is read. Refusals 1, 2 and 13.
 //     let moved = lent::lowered(start, Order::Big, b"\xa5\x01", 17);
-//     expect(b"inplace::lower_end", moved == Err(Refusal::BadEnd));
+//     let due = Err(Refusal::BadEnd);
+//     expect(b"inplace::lower_end", moved.answer == due);
 pub fn lower_end(cursor: &mut Cursor, order: Order, src: &[u8], end: usize) -> Result<(), Refusal>
     ensures { moved (number_of result) cursor.new ≡ lower_of order src.now cursor.old end }
 {

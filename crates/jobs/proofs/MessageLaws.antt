@@ -2,10 +2,10 @@
 use Prim.Native.Nat.{ℕ, ◌+◌, ◌^◌, ◌<◌, ◌≤◌}
 use mathlib.Core.Path.{◌≡◌, refl, sym, ap, ap₂, ◌∙◌}
 use mathlib.Core.List.{List, [], ◌∷◌, ◌++◌, append_assoc}
-use lib.ListN.{length, take, length-append}
-use lib.Seq.{sets}
+use lib.ListN.{length, take, drop, length-append}
+use lib.Seq.{sets, sets-eq, take_at, take-append_seam, length-take-le}
 use native.Mathlib.Omega.{arith}
-use Rattle.bits.proofs.StoreLaws.{sets-append, front_take}
+use Rattle.bits.proofs.StoreLaws.{sets-append, front, front_take}
 use Rattle.digits.specs.Digits.{ascii, newline}
 use Rattle.print.specs.Print.{places, whole_of}
 use Rattle.print.proofs.DigitLaws.{places_few}
@@ -55,6 +55,45 @@ unfolding fault_said ascii
 fault_is n r = simp append_assoc refl
 
 -- ---- put
+
+-- bytes copied to the front
+pub copied : (x out : List ℕ) → length x ≤ length out → x ++ drop (length x) out ≡ sets out 0 x
+copied x out h = sym (front x out h)
+
+-- bytes b, and bytes x behind them: all of it is b and x
+pub behind_front : (b x l : List ℕ) (n : ℕ) → take (length b) l ≡ b → length b + length x ≤ length l → n ≡ length b + length x
+    → take n (sets l (length b) x) ≡ b ++ x
+behind_front b x l n e h k =
+    let rest = drop (length b + length x) l in
+    let z : length (b ++ x) ≡ n = length-append b x ∙ sym k in
+    ap (take n) (sets-eq x l (length b) h ∙ ap (λ (y : List ℕ). (y ++ x) ++ rest) e) ∙ take_at (b ++ x) rest n z
+
+-- words copied to the front, behind them a number's digits and a byte, and the place behind these
+pub numbered_put : (words rest : List ℕ) (n b : ℕ) {l last : List ℕ} {at end : ℕ} → at ≡ length words
+    → l ≡ words ++ rest → at + places n < length l
+    → last ≡ sets l at (whole_of n ++ b ∷ []) → end ≡ at + places n + 1 → take end last ≡ words ++ (whole_of n ++ b ∷ [])
+numbered_put words rest n b {l} {last} {at} {end} e c h f k =
+    let x = whole_of n ++ b ∷ [] in
+    let p = part-size (places n) n b in
+    let front : take (length words) l ≡ words =
+    ap (take (length words)) c ∙ take-append_seam words rest in
+    ap (take end) (f ∙ ap (λ (j : ℕ). sets l j x) e) ∙ behind_front words x l end front (omega arith) (omega arith)
+
+-- words copied behind the first m bytes of l, and the place behind them
+module _ (words rest z l : List ℕ) (m : ℕ) {n k : ℕ} {y : List ℕ} (h : m ≤ length l) (there : y ≡ words ++ rest) (e : k ≡ m + n) (f : n ≡ length words) where
+  pub behind_room : k ≤ length (take m l ++ (y ++ z))
+  behind_room =
+      let a = length-append (take m l) (y ++ z) in
+      let b = length-append y z in
+      let c = ap length there ∙ length-append words rest in
+      let d = length-take-le m l h in
+      omega arith
+
+  pub copied_behind : take k (take m l ++ (y ++ z)) ≡ take m l ++ words
+  copied_behind =
+      ap (λ (x : List ℕ). take k (take m l ++ (x ++ z))) there
+      ∙ ap (take k) (simp append_assoc refl)
+      ∙ take_at (take m l ++ words) (rest ++ z) k (length-append (take m l) words ∙ ap (λ (i : ℕ). i + length words) (length-take-le m l h) ∙ omega arith)
 
 -- bytes x put behind bytes a that stand at the front
 pub put_behind : (a x l : List ℕ) {m last : List ℕ} {at : ℕ} → m ≡ sets l 0 a → at ≡ 0 + length a → last ≡ sets m at x → last ≡ sets l 0 (a ++ x)

@@ -2,8 +2,8 @@
 #![tactic(auto)]
 
 ghost use Rattle.std.specs.Prelude.{◌≡◌, length};
-ghost use Rattle.bits.specs.Refusals.{told};
-ghost use Rattle.reader.specs.Answers.{moved_told, peek_of, consume_of, refill_of, lower_of, remainder_of, partial_of};
+ghost use Rattle.bits.specs.Refusals.{number_of, told};
+ghost use Rattle.reader.specs.Answers.{moved, peek_of, consume_of, refill_of, lower_of, remainder_of, partial_of};
 
 use bits::{Order, Refusal};
 use reader::Cursor;
@@ -16,6 +16,13 @@ pub struct Rest {
     pub length: usize,
 }
 
+// What a call answered, and the cursor as the call left it, refused or not.
+#[derive(Clone, Copy, Debug, PartialEq, Eq)]
+pub struct Outcome {
+    pub answer: Result<(), Refusal>,
+    pub cursor: Cursor,
+}
+
 // `inplace::peek` of a cursor that is lent.
 pub fn peeked(cursor: Cursor, order: Order, src: &[u8], count: u32) -> Result<u64, Refusal>
     ensures { told 0 result ≡ peek_of order src.now cursor count }
@@ -24,30 +31,39 @@ pub fn peeked(cursor: Cursor, order: Order, src: &[u8], count: u32) -> Result<u6
 }
 
 // `inplace::consume` of a cursor that is lent.
-pub fn consumed(cursor: Cursor, order: Order, src: &[u8], count: u32) -> Result<Cursor, Refusal>
-    ensures { moved_told cursor result ≡ consume_of order src.now cursor count }
+pub fn consumed(cursor: Cursor, order: Order, src: &[u8], count: u32) -> Outcome
+    ensures { moved (number_of result.answer) result.cursor ≡ consume_of order src.now cursor count }
 {
     let mut own = cursor;
-    inplace::consume(&mut own, order, src, count)?;
-    Ok(own)
+    let answer = inplace::consume(&mut own, order, src, count);
+    Outcome {
+        answer: answer,
+        cursor: own,
+    }
 }
 
 // `inplace::refill_lookahead` of a cursor that is lent.
-pub fn refilled(cursor: Cursor, order: Order, src: &[u8]) -> Result<Cursor, Refusal>
-    ensures { moved_told cursor result ≡ refill_of order src.now cursor }
+pub fn refilled(cursor: Cursor, order: Order, src: &[u8]) -> Outcome
+    ensures { moved (number_of result.answer) result.cursor ≡ refill_of order src.now cursor }
 {
     let mut own = cursor;
-    inplace::refill_lookahead(&mut own, order, src)?;
-    Ok(own)
+    let answer = inplace::refill_lookahead(&mut own, order, src);
+    Outcome {
+        answer: answer,
+        cursor: own,
+    }
 }
 
 // `inplace::lower_end` of a cursor that is lent.
-pub fn lowered(cursor: Cursor, order: Order, src: &[u8], end: usize) -> Result<Cursor, Refusal>
-    ensures { moved_told cursor result ≡ lower_of order src.now cursor end }
+pub fn lowered(cursor: Cursor, order: Order, src: &[u8], end: usize) -> Outcome
+    ensures { moved (number_of result.answer) result.cursor ≡ lower_of order src.now cursor end }
 {
     let mut own = cursor;
-    inplace::lower_end(&mut own, order, src, end)?;
-    Ok(own)
+    let answer = inplace::lower_end(&mut own, order, src, end);
+    Outcome {
+        answer: answer,
+        cursor: own,
+    }
 }
 
 // The numbers of `remains::remainder_record`, and the length of its slice.

@@ -27,8 +27,9 @@ fn copy_from(src: &[u8], at: usize, out: &mut [u8])
     requires { at + length out.old ≤ length src.now }
     ensures { out.new ≡ firsts (λ i. get_or src.now (at + i) 0) (length out.old) }
 {
-    let n = out.len();
-    out.copy_from_slice(&src[at..at + n]);
+    for (i, byte) in out.iter_mut().enumerate() {
+        *byte = src[at + i];
+    }
 }
 
 // Fills out with straddles of the bytes from `high` on and those from `low` on.

@@ -154,6 +154,16 @@ fn put_shifted(order: Order, out: &mut [u8], c: State, src: &[u8]) -> State
     next
 }
 
+// Bytes where no bits are held: a copy, byte by byte, so that the C library's is not called.
+fn put_copied(out: &mut [u8], at: usize, src: &[u8])
+    requires { at + length src.now ≤ length out.old }
+    ensures { out.new ≡ sets out.old at src.now }
+{
+    for (i, byte) in src.iter().enumerate() {
+        out[at + i] = *byte;
+    }
+}
+
 // Bytes behind those written, eight bits each.
 pub fn put_bytes(order: Order, out: &mut [u8], c: State, src: &[u8]) -> State
     requires { Belongs (length out.old) c × (bits_written c + 8 * length src.now ≤ 8 * length out.old) }
@@ -163,10 +173,9 @@ pub fn put_bytes(order: Order, out: &mut [u8], c: State, src: &[u8]) -> State
     if 0 < c.held {
         return put_shifted(order, out, c, src);
     }
-    let end = c.written + src.len();
-    out[c.written..end].copy_from_slice(src);
+    put_copied(out, c.written, src);
     State {
-        written: end,
+        written: c.written + src.len(),
         held: 0,
         number: 0,
     }

@@ -38,8 +38,7 @@ fn number<T: Copy>(answer: Result<T, Refusal>) -> u32 {
 fn number_packed(answer: Result<Option<usize>, PackError>) -> u32 {
     match answer {
         Ok(_) => 0,
-        Err(PackError::Refused(refusal)) => refusal.number(),
-        Err(PackError::BadRow(_)) => Refusal::BadRow.number(),
+        Err(error) => error.number(),
     }
 }
 

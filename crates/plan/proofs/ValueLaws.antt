@@ -1,6 +1,6 @@
 -- Laws of the values of fields, and of values put at the front of a list.
 use Prim.Native.Nat.{ℕ, zero, suc, ◌+◌, ◌^◌, ◌<◌, ◌≤◌}
-use mathlib.Core.Path.{◌≡◌, refl, sym, ap, ◌∙◌}
+use mathlib.Core.Path.{◌≡◌, refl, sym, ap, ap₂, ◌∙◌}
 use mathlib.Core.List.{List, [], ◌∷◌, ◌++◌}
 use native.Mathlib.Nat.{add-zero, add_assoc}
 use native.Mathlib.Omega.{arith}
@@ -17,11 +17,15 @@ use Rattle.plan.specs.Run.{pattern_of, values_of}
 
 -- ---- values put at the front
 
--- values that were put at the front of a list, copied to the front of another
-pub front_put :
+-- values that were put at the front of a list, put at another's
+pub front_put : (l zeros xs : List ℕ) {v : List ℕ} {n : ℕ} → v ≡ sets zeros 0 xs → n ≡ length xs → length xs ≤ length zeros → sets l 0 (take n v) ≡ sets l 0 xs
+front_put l zeros xs p q h = ap (sets l 0) (ap₂ take q p ∙ front_take xs zeros h)
+
+-- the same, copied to the front of another
+pub front_copied :
     (l zeros xs : List ℕ) {v : List ℕ} {n : ℕ} → v ≡ sets zeros 0 xs → n ≡ length xs → length xs ≤ length zeros → length xs ≤ length l →
     take n v ++ drop n l ≡ sets l 0 xs
-front_put l zeros xs p q h k =
+front_copied l zeros xs p q h k =
     (λ i. take (q i) (p i) ++ drop (q i) l) ∙ ap (λ (t : List ℕ). t ++ drop (length xs) l) (front_take xs zeros h) ∙ sym (front xs l k)
 
 -- ---- values

@@ -3,9 +3,11 @@ ghost use Rattle.std.specs.Prelude.{◌≡◌, ℕ, List, MatchResult, ◌<◌, 
 
 use std::io::Read;
 
-// A job: all that a program writes for all that it reads, and how many bytes are room for every answer.
+// A job: all that a program writes for all that it reads, the most bytes that it takes, and how many bytes are room for every answer.
 pub trait Job {
     ghost answer: { List ℕ → List ℕ };
+
+    ghost most: { ℕ };
 
     ghost room: { ℕ };
 
@@ -18,19 +20,19 @@ pub trait Job {
 }
 
 // Does a job: all that is written to standard output is its answer to all that is read from standard input, into a space that holds more
-// than a program takes.
+// than the job takes.
 pub fn run<J: Job>(
     stdin: &mut impl Read,
     rt: &(impl Print + Eprint),
     space: &mut [u8],
     out: &mut [u8],
 )
-    requires most_taken_in_bounds { 65536 < length space.old }
+    requires most_taken_in_bounds { J.most < length space.old }
     requires has_room { J.room ≤ length out.old }
     requires in_limit { length out.old ≤ 16777216 }
 {
     let Ok(n) = read_input(stdin, space) else {
-        tell(rt, "standard input can't be read\n");
+        tell_unread(rt);
         return;
     };
     let length = J::answer(&space[..n], out);
@@ -55,11 +57,21 @@ pub fn read_input(stdin: &mut impl Read, buf: &mut [u8]) -> Result<usize, usize>
     Ok(done)
 }
 
-// Writes the answer to the first n bytes of a space that holds more than a program takes, and tells a failure on standard error.
+// Writes the answer to the first n bytes of a space that holds more than the job takes.
 fn write_answer<J: Job>(rt: &(impl Print + Eprint), space: &[u8], n: usize, some: &[u8])
-    requires most_taken_in_bounds { 65536 < length space.now }
+    requires most_taken_in_bounds { J.most < length space.now }
     requires answer_value { some.now ≡ J.answer (take n space.now) }
 {
+    write_output(rt, some);
+}
+
+// Tells on standard error that a read failed.
+pub fn tell_unread(rt: &impl Eprint) {
+    tell(rt, "standard input can't be read\n");
+}
+
+// Writes to standard output, and tells a failure on standard error.
+pub fn write_output(rt: &(impl Print + Eprint), some: &[u8]) {
     if rt.write_all(some).is_ok() {
         return;
     }

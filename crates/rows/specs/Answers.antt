@@ -1,8 +1,8 @@
 -- What the calls on rows answer, and what lent memory holds afterwards, on every input.
-use Rattle.std.specs.Prelude.{ℕ, Option, Some, None, Result, Ok, Err, ◌*◌, Bool, true, false, not, cond, List, [], ◌∷◌, length, eqb, ltb}
+use Rattle.std.specs.Prelude.{ℕ, Option, Some, None, Result, Ok, Err, ◌*◌, Bool, true, false, not, cond, List, [], ◌∷◌, ◌++◌, length, eqb, ltb, codes, decimal}
 use Rattle.std.proofs.lemmas.List.Edits.{sets}
 use Rattle.bits.specs.declared.Refusal.{Refusal}
-use Rattle.bits.specs.Refusals.{number, longest, done, too_long, too_large, no_room, too_few, bad_row, ◌⟶◌, first_refusal, if_done, Told}
+use Rattle.bits.specs.Refusals.{number, refusal_said, longest, done, too_long, too_large, no_room, too_few, bad_row, ◌⟶◌, first_refusal, if_done, Told}
 use Rattle.record.specs.declared.Record.{Record}
 use Rattle.record.specs.Record.{fits, no_record}
 use Rattle.strip.specs.Strip.{strip_length, count_of, tail_good}
@@ -45,6 +45,11 @@ error_number (why.BadRow k) = bad_row
 abbrev pub error_row : PackError → ℕ
 error_row (why.Refused e) = 0
 error_row (why.BadRow k) = k
+
+-- what an error says of itself
+abbrev pub error_said : PackError → List ℕ
+error_said (why.Refused e) = refusal_said e
+error_said (why.BadRow k) = codes "row " ++ (decimal k ++ codes " says no record")
 
 -- the outcome of testing rows
 abbrev pub found_told : Result Unit PackError → Found

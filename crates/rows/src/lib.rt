@@ -2,10 +2,10 @@
 #![tactic(auto)]
 
 ghost use Rattle.record.specs.Record.{no_record};
-ghost use Rattle.std.specs.Prelude.{◌≡◌, length};
+ghost use Rattle.std.specs.Prelude.{◌≡◌, Some, length};
 ghost use Rattle.bits.specs.Refusals.{number_of, told};
 ghost use Rattle.rows.specs.declared.PackError.TheVariants.{Refused};
-ghost use Rattle.rows.specs.Answers.{rows_told, packed_told, row_refusal, row_out, read_of, rows_of, rows_out, packed_of, packed_out};
+ghost use Rattle.rows.specs.Answers.{rows_told, packed_told, error_number, error_said, row_refusal, row_out, read_of, rows_of, rows_out, packed_of, packed_out};
 
 use bits::Refusal;
 use record::{RECORD_BITS, Record};
@@ -24,7 +24,23 @@ pub enum PackError {
     BadRow(usize),
 }
 
+impl PackError {
+    // The number by which it is known outside Rattle.
+    //     let third = rows::PackError::BadRow(3);
+    //     expect(b"rows::PackError::number", third.number() == 11);
+    pub fn number(self) -> u32
+        ensures { result ≡ error_number self }
+    {
+        match self {
+            PackError::Refused(refusal) => refusal.number(),
+            PackError::BadRow(_) => Refusal::BadRow.number(),
+        }
+    }
+}
+
 impl fmt::Display for PackError {
+    ghost output = { λ error. Some (error_said error) };
+
     fn fmt<W: fmt::Write>(&self, f: &mut fmt::Formatter<W>) -> fmt::Result {
         match self {
             PackError::Refused(refusal) => write!(f, "{refusal}"),

@@ -1,7 +1,7 @@
 // FITS rows on standard input, as a strip on standard output: all that is written is the row pack job's answer to all that was read.
 #![tactic(auto)]
 
-ghost use Rattle.jobs.specs.Jobs.{pack_rows_answer};
+ghost use Rattle.jobs.specs.Jobs.{most_taken, pack_rows_answer};
 
 use programs::inner::Job;
 
@@ -9,6 +9,8 @@ struct PackRows;
 
 impl Job for PackRows {
     ghost answer = { pack_rows_answer };
+
+    ghost most = { most_taken };
 
     ghost room = { 40495 };
 

@@ -7,6 +7,7 @@ use crate::reads::After;
 use crate::writes::Written;
 use crate::{reads, writes};
 use bits::{Order, Refusal};
+use lent::Outcome;
 use reader::{Cursor, Read};
 use script_words::inner as spelling;
 use script_words::inner::Line;
@@ -18,11 +19,12 @@ pub fn read(l: Line, order: Order, c: Cursor, src: &[u8], buf: &mut [u8], line: 
     ensures { result.length ≤ length line.old }
 {
     match l.letter {
-        b'b' | b's' | b'f' | b'p' | b'c' | b'r' | b'l' => reads::told_of(
+        b'b' | b's' | b'f' | b'p' => reads::told_of(
             c,
             answer(l.letter, l.first, c, order, src),
             line,
         ),
+        b'c' | b'r' | b'l' => left_told(left(l.letter, l.first, c, order, src), line),
         b'm' => After {
             cursor: c,
             length: remainder(c, order, src, line),
@@ -35,16 +37,32 @@ pub fn read(l: Line, order: Order, c: Cursor, src: &[u8], buf: &mut [u8], line: 
     }
 }
 
-// The answer of a typed read, or of a call on a borrowed cursor.
+// A move of a borrowed cursor: its answer, and the cursor as the call left it.
+fn left(letter: u8, n: u64, c: Cursor, order: Order, src: &[u8]) -> Outcome {
+    match letter {
+        b'c' => lent::consumed(c, order, src, crate::narrow(n)),
+        b'l' => lent::lowered(c, order, src, n as usize),
+        _ => lent::refilled(c, order, src),
+    }
+}
+
+// That cursor, and its line: `refusal 0 offset lookahead`, the last two as the call left them.
+fn left_told(left: Outcome, line: &mut [u8]) -> After
+    ensures { result.length ≤ length line.old }
+{
+    After {
+        cursor: left.cursor,
+        length: reads::told(line, left.answer.map(|_done| 0), left.cursor),
+    }
+}
+
+// The answer of a typed read, or of a peek of a borrowed cursor.
 fn answer(letter: u8, n: u64, c: Cursor, order: Order, src: &[u8]) -> Result<Read<u64>, Refusal> {
     match letter {
         b'b' => typed_read(c, order, src, Kind::Unsigned, crate::narrow(n)),
         b's' => typed_read(c, order, src, Kind::Signed, crate::narrow(n)),
         b'f' => fixed(Fixed::from(n), c, order, src),
-        b'p' => reads::seen(c, lent::peeked(c, order, src, crate::narrow(n))),
-        b'c' => reads::moved(lent::consumed(c, order, src, crate::narrow(n))),
-        b'l' => reads::moved(lent::lowered(c, order, src, n as usize)),
-        _ => reads::moved(lent::refilled(c, order, src)),
+        _ => reads::seen(c, lent::peeked(c, order, src, crate::narrow(n))),
     }
 }
 
@@ -70,14 +88,20 @@ fn typed_read(
     )
 }
 
-// The remainder record's numbers, and the bytes of its slice: the last ones before the cursor's end.
+// The remainder record's numbers, refused or not, and the bytes of its slice: the last ones before the cursor's end.
 fn remainder(c: Cursor, order: Order, src: &[u8], line: &mut [u8]) -> usize
     ensures { result ≤ length line.old }
 {
     let rest = lent::left(c, order, src);
-    let value = c.partial(order, src).map(|_told| 16 * u64::from(rest.partial_byte)
-        + u64::from(rest.partial_bits));
-    let end = reads::told(line, value, c);
+    let (refusal, _value) = crate::numbers(c.partial(order, src).map(|_partial| 0));
+    let value = 16 * u64::from(rest.partial_byte) + u64::from(rest.partial_bits);
+    let end = spelling::put_four(
+        line,
+        refusal,
+        value,
+        c.offset as u64,
+        u64::from(c.lookahead),
+    );
     let last = crate::within(src, c.end / 8);
     let start = last.saturating_sub(rest.length);
     spelling::put_next_bytes(line, end, &src[start..last])

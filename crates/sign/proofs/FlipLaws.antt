@@ -1,4 +1,4 @@
--- Bits turned over, as the code does it: all of a signed number's by -1 - z.
+-- Bits turned over: all of a signed number's by -1 - z.
 use Rattle.std.proofs.Common.{◌≡◌, ℕ, zero, suc, ◌-◌, ◌<◌, ◌≤◌, true, false, T, ℤ, pos, negsuc, ◌-ℤ◌, refl, ap, ◌∙◌, subst, zero-add, arith, SFits, to_z, of_z, ltb-true, le-ltb}
 use lib.Signed.{mag, lt_z}
 use mir.Syntax.{Width}
@@ -31,7 +31,7 @@ complement-fits w z f = rw minus-one_less (record { sfits = rw mag_complement f.
 pub complement_read : (w : Width) (z : ℤ) → SFits w z → to_z w (of_z w (negsuc 0 -ℤ z)) ≡ complement z
 complement_read w z f = to_z-of_z w (negsuc 0 -ℤ z) (complement-fits w z f) ∙ minus-one_less z
 
--- ---- the sign, by the code's test
+-- ---- the sign, by a test against 0
 
 pub negative : (z : ℤ) → lt_z z (pos 0) ≡ true → z ≡ negsuc (mag z)
 negative (pos n) h = let l : n < 0 = ltb-true n 0 h in absurd (omega arith)

@@ -3,6 +3,7 @@ use mathlib.Core.Path.{◌≡◌, refl, sym, ap, ap₂, ◌∙◌}
 use mathlib.Core.Bool.{Bool, true, cond, ◌&&◌}
 use mathlib.Core.List.{List, [], ◌∷◌, ◌++◌}
 use Prim.Native.Nat.{ℕ, zero, suc, ◌+◌, ◌-◌, ◌*◌, ◌/◌, ◌^◌, ◌<◌, ◌≤◌, min}
+use native.Mathlib.Nat.{add-zero}
 use native.Mathlib.Numerals.{unary_clauses}
 use native.Mathlib.Omega.{arith}
 use lib.Dec.{ltb}
@@ -15,10 +16,17 @@ use Rattle.bits.proofs.TestLaws.{by_test}
 use Rattle.bits.proofs.StoreLaws.{sets-append}
 use Rattle.sign.proofs.SignedLaws.{pattern-signed, signed-pattern}
 use Rattle.record.specs.declared.Record.{Record}
-use Rattle.record.specs.Record.{fits, record_bits}
+use Rattle.record.specs.Record.{fits, record_of, record_bits}
 use Rattle.strip.specs.Bits.{record_at}
 use Rattle.strip.specs.Strip.{numbers_of, all_numbers, record_in, records_in, all_fit, records_from}
 use Rattle.strip.proofs.FitLaws.{all_fit_parts, with_magnitude}
+
+-- the record of the six numbers from `at` on
+abbrev pub record_from : List ℕ → ℕ → Record
+record_from ns at = record_of (get_or ns at 0) (get_or ns (at + 1) 0) (get_or ns (at + 2) 0) (get_or ns (at + 3) 0) (get_or ns (at + 4) 0) (get_or ns (at + 5) 0)
+
+record_from_lem : (ns : List ℕ) (at : ℕ) → record_in (drop at ns) ≡ record_from ns at
+record_from_lem ns at = simp (get_or-drop, add-zero)
 
 -- ---- records one after the other
 

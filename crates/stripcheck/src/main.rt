@@ -1,7 +1,7 @@
 // A strip on standard input, judged on standard output: all that is written is the check job's answer to all that was read.
 #![tactic(auto)]
 
-ghost use Rattle.jobs.specs.Jobs.{check_answer};
+ghost use Rattle.jobs.specs.Jobs.{most_taken, check_answer};
 
 use programs::inner::Job;
 
@@ -9,6 +9,8 @@ struct Check;
 
 impl Job for Check {
     ghost answer = { check_answer };
+
+    ghost most = { most_taken };
 
     ghost room = { 34 };
 

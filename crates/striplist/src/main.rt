@@ -1,7 +1,7 @@
 // A strip on standard input, as text on standard output: all that is written is the list job's answer to all that was read.
 #![tactic(auto)]
 
-ghost use Rattle.jobs.specs.Jobs.{list_answer};
+ghost use Rattle.jobs.specs.Jobs.{most_taken, list_answer};
 
 use programs::inner::Job;
 
@@ -9,6 +9,8 @@ struct List;
 
 impl Job for List {
     ghost answer = { list_answer };
+
+    ghost most = { most_taken };
 
     ghost room = { 241530 };
 

@@ -1,7 +1,7 @@
 // A text on standard input, as a strip on standard output: all that is written is the pack job's answer to all that was read.
 #![tactic(auto)]
 
-ghost use Rattle.jobs.specs.Jobs.{pack_answer};
+ghost use Rattle.jobs.specs.Jobs.{most_taken, pack_answer};
 
 use programs::inner::Job;
 
@@ -9,6 +9,8 @@ struct Pack;
 
 impl Job for Pack {
     ghost answer = { pack_answer };
+
+    ghost most = { most_taken };
 
     ghost room = { 28024 };
 

@@ -1,7 +1,7 @@
 // A strip on standard input, as FITS rows on standard output: all that is written is the rows job's answer to all that was read.
 #![tactic(auto)]
 
-ghost use Rattle.jobs.specs.Jobs.{rows_answer};
+ghost use Rattle.jobs.specs.Jobs.{most_taken, rows_answer};
 
 use programs::inner::Job;
 
@@ -9,6 +9,8 @@ struct Rows;
 
 impl Job for Rows {
     ghost answer = { rows_answer };
+
+    ghost most = { most_taken };
 
     ghost room = { 106020 };
 

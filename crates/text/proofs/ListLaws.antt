@@ -26,7 +26,7 @@ lines_left s n i = listed (records_from s (record_bits * i) (n - i))
 pub all_left : (s : List ℕ) (n : ℕ) → lines_left s n 0 ≡ listed (records_from s 0 n)
 all_left s n = ap (λ (k : ℕ). listed (records_from s 0 k)) (sub-zero n)
 
-next_left : (s : List ℕ) (n i : ℕ) → i < n → lines_left s n i ≡ line_of (record_at s (record_bits * i)) ++ lines_left s n (i + 1)
+pub next_left : (s : List ℕ) (n i : ℕ) → i < n → lines_left s n i ≡ line_of (record_at s (record_bits * i)) ++ lines_left s n (i + 1)
 unfolding listed records_from
 next_left s n i h =
     let e : n - i ≡ suc (n - (i + 1)) = omega arith in
@@ -34,7 +34,7 @@ next_left s n i h =
     ap (λ (k : ℕ). listed (records_from s (record_bits * i) k)) e
     ∙ ap (λ (k : ℕ). line_of (record_at s (record_bits * i)) ++ listed (records_from s k (n - (i + 1)))) next
 
-none_left : (s : List ℕ) (n i : ℕ) → n ≤ i → lines_left s n i ≡ []
+pub none_left : (s : List ℕ) (n i : ℕ) → n ≤ i → lines_left s n i ≡ []
 unfolding listed records_from
 none_left s n i h = let e : n - i ≡ 0 = omega arith in ap (λ (k : ℕ). listed (records_from s (record_bits * i) k)) e
 

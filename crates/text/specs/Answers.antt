@@ -1,8 +1,8 @@
 -- What listing and packing whole texts answer, and what the output holds afterwards, on every input.
-use Rattle.std.specs.Prelude.{ℕ, cond, not, List, [], ◌∷◌, length, eqb, ltb, Result, Ok, Err}
+use Rattle.std.specs.Prelude.{ℕ, cond, not, List, [], ◌∷◌, ◌++◌, length, eqb, ltb, Result, Ok, Err, codes, decimal}
 use Rattle.std.proofs.lemmas.List.Edits.{sets}
 use Rattle.bits.specs.declared.Refusal.{Refusal}
-use Rattle.bits.specs.Refusals.{number, longest, done, too_long, bad_line, no_room, ◌⟶◌, first_refusal, if_done, LengthTold}
+use Rattle.bits.specs.Refusals.{number, refusal_said, longest, done, too_long, bad_line, no_room, ◌⟶◌, first_refusal, if_done, LengthTold}
 use Rattle.strip.specs.Strip.{strip_length, strip_bytes}
 use Rattle.text.specs.declared.PackError.{PackError}
 use Rattle.text.specs.declared.PackError.TheVariants.{Refused, BadLine}
@@ -32,6 +32,11 @@ abbrev pub found_told : {A : Type 0} → Result A PackError → Found
 found_told (Ok x) = record { refusal = done; line = 0 }
 found_told (Err (Refused e)) = record { refusal = number e; line = 0 }
 found_told (Err (BadLine n)) = record { refusal = bad_line; line = n }
+
+-- what an error says of itself
+abbrev pub error_said : PackError → List ℕ
+error_said (Refused e) = refusal_said e
+error_said (BadLine n) = codes "line " ++ (decimal n ++ codes " breaks the line rules")
 
 -- ---- listing
 

@@ -2,9 +2,9 @@
 #![tactic(auto)]
 
 ghost use Rattle.bits.specs.Refusals.{length_told};
-ghost use Rattle.std.specs.Prelude.{◌≡◌, length};
+ghost use Rattle.std.specs.Prelude.{◌≡◌, Some, Err, length};
 ghost use Rattle.text.specs.declared.PackError.TheVariants.{Refused};
-ghost use Rattle.text.specs.Answers.{list_of, list_out, packed_told, pack_of, pack_out};
+ghost use Rattle.text.specs.Answers.{list_of, list_out, packed_told, error_said, pack_of, pack_out};
 
 use bits::Refusal;
 use std::error::Error;
@@ -19,7 +19,23 @@ pub enum PackError {
     BadLine(usize),
 }
 
+impl PackError {
+    // The number by which it is known outside Rattle.
+    //     let headless = PackError::BadLine(1);
+    //     expect(b"text::PackError::number", headless.number() == 7);
+    pub fn number(self) -> u32
+        ensures { result ≡ (packed_told (Err self)).refusal }
+    {
+        match self {
+            PackError::Refused(why) => why.number(),
+            PackError::BadLine(_) => Refusal::BadLine.number(),
+        }
+    }
+}
+
 impl fmt::Display for PackError {
+    ghost output = { λ error. Some (error_said error) };
+
     fn fmt<W: fmt::Write>(&self, f: &mut fmt::Formatter<W>) -> fmt::Result {
         match self {
             PackError::Refused(why) => write!(f, "{why}"),

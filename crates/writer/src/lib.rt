@@ -52,6 +52,7 @@ impl Writer {
     // Eight bits.
     //     let _wrote = blank.write_u8(Order::Big, &mut out, 0x5a);
     //     expect(b"write_u8", out[0] == 0x5a);
+    #[inline(always)]
     pub fn write_u8(self, order: Order, out: &mut [u8], value: u8) -> Result<Writer, Refusal>
         ensures answer { wrote_told self result ≡ write_of order (length out.old) self 8 value }
         ensures memory { out.new ≡ write_out order out.old self 8 value }
@@ -72,6 +73,7 @@ impl Writer {
     // Sixteen bits.
     //     let _wrote = blank.write_u16(Order::Little, &mut out, 0x0201);
     //     expect(b"write_u16", out[1] == 2);
+    #[inline(always)]
     pub fn write_u16(self, order: Order, out: &mut [u8], value: u16) -> Result<Writer, Refusal>
         ensures answer { wrote_told self result ≡ write_of order (length out.old) self 16 value }
         ensures memory { out.new ≡ write_out order out.old self 16 value }
@@ -92,6 +94,7 @@ impl Writer {
     // 32 bits.
     //     let _wrote = blank.write_u32(Order::Big, &mut out, 0x0001_0203);
     //     expect(b"write_u32", out[3] == 3);
+    #[inline(always)]
     pub fn write_u32(self, order: Order, out: &mut [u8], value: u32) -> Result<Writer, Refusal>
         ensures answer { wrote_told self result ≡ write_of order (length out.old) self 32 value }
         ensures memory { out.new ≡ write_out order out.old self 32 value }
@@ -123,6 +126,7 @@ impl Writer {
     // 64 bits.
     //     let _wrote = blank.write_u64(Order::Big, &mut out, 0x0001_0203_0405_0607);
     //     expect(b"write_u64", out[7] == 7);
+    #[inline(always)]
     pub fn write_u64(self, order: Order, out: &mut [u8], value: u64) -> Result<Writer, Refusal>
         ensures answer { wrote_told self result ≡ write_of order (length out.old) self 64 value }
         ensures memory { out.new ≡ write_out order out.old self 64 value }
@@ -144,6 +148,7 @@ impl Writer {
     //     let one = floats::double_of_bits(0x3ff0_0000_0000_0000);
     //     let _wrote = blank.write_f64(Order::Big, &mut out, one);
     //     expect(b"write_f64", out[1] == 0xf0);
+    #[inline(always)]
     pub fn write_f64(self, order: Order, out: &mut [u8], value: Double) -> Result<Writer, Refusal>
         ensures answer { wrote_told self result ≡ write_of order (length out.old) self 64 (double_bits value) }
         ensures memory { out.new ≡ write_out order out.old self 64 (double_bits value) }
@@ -204,6 +209,7 @@ impl Writer {
     // Bytes, eight bits each. Refusals 1 (also for the bytes), 2 and 8, before the first byte.
     //     let _wrote = last.write_bytes(Order::Big, &mut out, b"\x01\x02");
     //     expect(b"write_bytes", out[3] == 2);
+    #[inline(always)]
     pub fn write_bytes(self, order: Order, out: &mut [u8], buf: &[u8]) -> Result<Writer, Refusal>
         ensures answer { wrote_told self result ≡ bytes_of order (length out.old) self buf.now }
         ensures memory { out.new ≡ bytes_out order out.old self buf.now }

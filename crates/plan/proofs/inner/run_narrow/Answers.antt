@@ -7,7 +7,7 @@ use lib.ListN.{length, drop}
 use Rattle.std.proofs.Common.{length-take-le}
 use Rattle.plan.specs.Run.{values_of, fields_of}
 use Rattle.plan.proofs.RunLaws.{plan_few}
-use Rattle.plan.proofs.ValueLaws.{front_put, length_values}
+use Rattle.plan.proofs.ValueLaws.{front_copied, length_values}
 use Rattle.plan.proofs.inner.run_narrow.Goals as goal
 
 pub slice_bounds-values-end : goal.slice_bounds-values-end
@@ -34,4 +34,4 @@ returns-clause-memory c =
     let many = length_values a.order a.src.now a.place (fields_of a.plan.now) in
     let few = plan_few a.plan.now passes in
     ap (λ (l : List ℕ). l ++ drop c.in_ok-read.read.fields a.results.now) c.copy_from_slice.ensures.after
-    ∙ front_put a.results.now _ (values_of a.order a.src.now a.place (fields_of a.plan.now)) c.in_ok-read.ensures.memory (fields ∙ sym many) (omega (arith, many, few)) (omega (arith, many, fields, c.if-results-n.false))
+    ∙ front_copied a.results.now _ (values_of a.order a.src.now a.place (fields_of a.plan.now)) c.in_ok-read.ensures.memory (fields ∙ sym many) (omega (arith, many, few)) (omega (arith, many, fields, c.if-results-n.false))
