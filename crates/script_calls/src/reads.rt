@@ -113,7 +113,7 @@ pub(crate) fn bits_of<T: Copy, F: FnOnce(T) -> u64>(
 }
 
 // A move, which has the value 0.
-pub(crate) fn moved(next: Result<Cursor, Refusal>) -> Result<Read<u64>, Refusal> {
+fn moved(next: Result<Cursor, Refusal>) -> Result<Read<u64>, Refusal> {
     Ok(Read {
         value: 0,
         cursor: next?,

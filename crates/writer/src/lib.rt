@@ -126,7 +126,6 @@ impl Writer {
     // 64 bits.
     //     let _wrote = blank.write_u64(Order::Big, &mut out, 0x0001_0203_0405_0607);
     //     expect(b"write_u64", out[7] == 7);
-    #[inline(always)]
     pub fn write_u64(self, order: Order, out: &mut [u8], value: u64) -> Result<Writer, Refusal>
         ensures answer { wrote_told self result ≡ write_of order (length out.old) self 64 value }
         ensures memory { out.new ≡ write_out order out.old self 64 value }
@@ -148,7 +147,6 @@ impl Writer {
     //     let one = floats::double_of_bits(0x3ff0_0000_0000_0000);
     //     let _wrote = blank.write_f64(Order::Big, &mut out, one);
     //     expect(b"write_f64", out[1] == 0xf0);
-    #[inline(always)]
     pub fn write_f64(self, order: Order, out: &mut [u8], value: Double) -> Result<Writer, Refusal>
         ensures answer { wrote_told self result ≡ write_of order (length out.old) self 64 (double_bits value) }
         ensures memory { out.new ≡ write_out order out.old self 64 (double_bits value) }
