@@ -2,7 +2,10 @@
 // each line written says whether the call answered so. `start` is a fresh cursor of the slice that is read, `blank` a fresh writer.
 #![tactic(auto)]
 
+ghost use Rattle.std.specs.Prelude.{take};
+
 use bits::{Order, Refusal};
+use programs::inner::Job;
 use reader::{Cursor, Read};
 use record::Record;
 use text::PackError;
@@ -36,6 +39,7 @@ fn main(rt: HostRuntime) -> Result<(), Refusal> {
     lines(&rt);
     texts(&rt);
     whole_jobs(&rt);
+    whole_program(&rt);
     hosts(&rt);
     Ok(())
 }
@@ -522,6 +526,27 @@ fn whole_jobs(rt: &impl Print) {
 
     let answer = jobs::check_answer(b"\x00", &mut out);
     expect(rt, "check_answer", answer == Ok(9));
+}
+
+// A job that says no limit: the first ten bytes of what is read.
+struct Firsts;
+
+impl Job for Firsts {
+    ghost answer = { take 10 };
+
+    ghost room = { 10 };
+
+    fn answer(input: &[u8], out: &mut [u8]) -> usize {
+        let n = input.len().min(10);
+        out[..n].copy_from_slice(&input[..n]);
+        n
+    }
+}
+
+// Its line is what the job makes of more.
+fn whole_program(rt: &(impl Print + Eprint)) {
+    let mut given: &[u8] = b"run holds\nand no more";
+    programs::inner::run::<Firsts>(&mut given, rt, &mut [0u8; 65537], &mut [0u8; 10]);
 }
 
 fn hosts(rt: &impl Print) {

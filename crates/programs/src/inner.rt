@@ -2,12 +2,11 @@
 ghost use Rattle.std.specs.Prelude.{◌≡◌, ℕ, List, MatchResult, ◌<◌, ◌≤◌, length, take};
 
 use std::io::Read;
+use std::marker::PhantomData;
 
-// A job: all that a program writes for all that it reads, the most bytes that it takes, and how many bytes are room for every answer.
+// A job: all that a program writes for all that it reads, and how many bytes are room for every answer.
 pub trait Job {
     ghost answer: { List ℕ → List ℕ };
-
-    ghost most: { ℕ };
 
     ghost room: { ℕ };
 
@@ -19,9 +18,47 @@ pub trait Job {
         ensures value { take result out.new ≡ answer input.now };
 }
 
+// A job that says the most bytes that it takes.
+pub trait LimitedJob: Job {
+    ghost most: { ℕ };
+}
+
+// Any job, as one that takes 65,536 bytes.
+struct Usual<J: Job> {
+    of: PhantomData<J>,
+}
+
+impl<J: Job> Job for Usual<J> {
+    ghost answer = { J.answer };
+
+    ghost room = { J.room };
+
+    fn answer(input: &[u8], out: &mut [u8]) -> usize {
+        J::answer(input, out)
+    }
+}
+
+impl<J: Job> LimitedJob for Usual<J> {
+    ghost most = { 65536 };
+}
+
+// Does a job that takes 65,536 bytes.
+pub fn run<J: Job>(
+    stdin: &mut impl Read,
+    rt: &(impl Print + Eprint),
+    space: &mut [u8],
+    out: &mut [u8],
+)
+    requires most_taken_in_bounds { 65536 < length space.old }
+    requires has_room { J.room ≤ length out.old }
+    requires in_limit { length out.old ≤ 16777216 }
+{
+    run_limited::<Usual<J>>(stdin, rt, space, out);
+}
+
 // Does a job: all that is written to standard output is its answer to all that is read from standard input, into a space that holds more
 // than the job takes.
-pub fn run<J: Job>(
+pub fn run_limited<J: LimitedJob>(
     stdin: &mut impl Read,
     rt: &(impl Print + Eprint),
     space: &mut [u8],
@@ -58,7 +95,7 @@ pub fn read_input(stdin: &mut impl Read, buf: &mut [u8]) -> Result<usize, usize>
 }
 
 // Writes the answer to the first n bytes of a space that holds more than the job takes.
-fn write_answer<J: Job>(rt: &(impl Print + Eprint), space: &[u8], n: usize, some: &[u8])
+fn write_answer<J: LimitedJob>(rt: &(impl Print + Eprint), space: &[u8], n: usize, some: &[u8])
     requires most_taken_in_bounds { J.most < length space.now }
     requires answer_value { some.now ≡ J.answer (take n space.now) }
 {

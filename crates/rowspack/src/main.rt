@@ -3,14 +3,12 @@
 
 ghost use Rattle.jobs.specs.Jobs.{most_taken, pack_rows_answer};
 
-use programs::inner::Job;
+use programs::inner::{Job, LimitedJob};
 
 struct PackRows;
 
 impl Job for PackRows {
     ghost answer = { pack_rows_answer };
-
-    ghost most = { most_taken };
 
     ghost room = { 40495 };
 
@@ -19,6 +17,15 @@ impl Job for PackRows {
     }
 }
 
+impl LimitedJob for PackRows {
+    ghost most = { most_taken };
+}
+
 fn main(rt: HostRuntime) {
-    programs::inner::run::<PackRows>(&mut rt.stdin(), &rt, &mut [0u8; 65537], &mut [0u8; 65536]);
+    programs::inner::run_limited::<PackRows>(
+        &mut rt.stdin(),
+        &rt,
+        &mut [0u8; 65537],
+        &mut [0u8; 65536],
+    );
 }

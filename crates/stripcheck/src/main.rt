@@ -3,14 +3,12 @@
 
 ghost use Rattle.jobs.specs.Jobs.{most_taken, check_answer};
 
-use programs::inner::Job;
+use programs::inner::{Job, LimitedJob};
 
 struct Check;
 
 impl Job for Check {
     ghost answer = { check_answer };
-
-    ghost most = { most_taken };
 
     ghost room = { 34 };
 
@@ -19,6 +17,10 @@ impl Job for Check {
     }
 }
 
+impl LimitedJob for Check {
+    ghost most = { most_taken };
+}
+
 fn main(rt: HostRuntime) {
-    programs::inner::run::<Check>(&mut rt.stdin(), &rt, &mut [0u8; 65537], &mut [0u8; 64]);
+    programs::inner::run_limited::<Check>(&mut rt.stdin(), &rt, &mut [0u8; 65537], &mut [0u8; 64]);
 }

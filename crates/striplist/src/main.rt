@@ -3,14 +3,12 @@
 
 ghost use Rattle.jobs.specs.Jobs.{most_taken, list_answer};
 
-use programs::inner::Job;
+use programs::inner::{Job, LimitedJob};
 
 struct List;
 
 impl Job for List {
     ghost answer = { list_answer };
-
-    ghost most = { most_taken };
 
     ghost room = { 241530 };
 
@@ -19,6 +17,15 @@ impl Job for List {
     }
 }
 
+impl LimitedJob for List {
+    ghost most = { most_taken };
+}
+
 fn main(rt: HostRuntime) {
-    programs::inner::run::<List>(&mut rt.stdin(), &rt, &mut [0u8; 65537], &mut [0u8; 262144]);
+    programs::inner::run_limited::<List>(
+        &mut rt.stdin(),
+        &rt,
+        &mut [0u8; 65537],
+        &mut [0u8; 262144],
+    );
 }

@@ -3,14 +3,12 @@
 
 ghost use Rattle.jobs.specs.Jobs.{most_taken, pack_answer};
 
-use programs::inner::Job;
+use programs::inner::{Job, LimitedJob};
 
 struct Pack;
 
 impl Job for Pack {
     ghost answer = { pack_answer };
-
-    ghost most = { most_taken };
 
     ghost room = { 28024 };
 
@@ -19,6 +17,15 @@ impl Job for Pack {
     }
 }
 
+impl LimitedJob for Pack {
+    ghost most = { most_taken };
+}
+
 fn main(rt: HostRuntime) {
-    programs::inner::run::<Pack>(&mut rt.stdin(), &rt, &mut [0u8; 65537], &mut [0u8; 65536]);
+    programs::inner::run_limited::<Pack>(
+        &mut rt.stdin(),
+        &rt,
+        &mut [0u8; 65537],
+        &mut [0u8; 65536],
+    );
 }

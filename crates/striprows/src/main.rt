@@ -3,14 +3,12 @@
 
 ghost use Rattle.jobs.specs.Jobs.{most_taken, rows_answer};
 
-use programs::inner::Job;
+use programs::inner::{Job, LimitedJob};
 
 struct Rows;
 
 impl Job for Rows {
     ghost answer = { rows_answer };
-
-    ghost most = { most_taken };
 
     ghost room = { 106020 };
 
@@ -19,6 +17,15 @@ impl Job for Rows {
     }
 }
 
+impl LimitedJob for Rows {
+    ghost most = { most_taken };
+}
+
 fn main(rt: HostRuntime) {
-    programs::inner::run::<Rows>(&mut rt.stdin(), &rt, &mut [0u8; 65537], &mut [0u8; 131072]);
+    programs::inner::run_limited::<Rows>(
+        &mut rt.stdin(),
+        &rt,
+        &mut [0u8; 65537],
+        &mut [0u8; 131072],
+    );
 }
