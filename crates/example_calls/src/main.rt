@@ -543,7 +543,7 @@ impl Job for Firsts {
     }
 }
 
-// Its line is what the job makes of more.
+// The job done on more than ten bytes: the line `run holds`, by `run` itself.
 fn whole_program(rt: &(impl Print + Eprint)) {
     let mut given: &[u8] = b"run holds\nand no more";
     programs::inner::run::<Firsts>(&mut given, rt, &mut [0u8; 65537], &mut [0u8; 10]);

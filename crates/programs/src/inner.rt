@@ -23,7 +23,7 @@ pub trait LimitedJob: Job {
     ghost most: { ℕ };
 }
 
-// Any job, as one that takes 65,536 bytes.
+// A job with the usual limit, whatever it says.
 struct Usual<J: Job> {
     of: PhantomData<J>,
 }
@@ -42,7 +42,7 @@ impl<J: Job> LimitedJob for Usual<J> {
     ghost most = { 65536 };
 }
 
-// Does a job that takes 65,536 bytes.
+// Does any job, as one that takes 65,536 bytes.
 pub fn run<J: Job>(
     stdin: &mut impl Read,
     rt: &(impl Print + Eprint),
